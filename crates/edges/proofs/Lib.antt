@@ -1,0 +1,4 @@
+pub mod RunLaws
+pub mod LayLaws
+pub mod JoinLaws
+pub mod ShortestLaw
