@@ -1,3 +1,5 @@
 pub mod TextLaws
 pub mod WordLaws
 pub mod ListLaws
+pub mod ShownLaws
+pub mod ReplyLaws

@@ -1,0 +1,28 @@
+use mathlib.Core.Path.{_≡_, refl, sym, ap, _∙_}
+use lib.Chars.{codes}
+use lib.Utf8.{encode}
+use Rattle.std.specs.Of.Vec.{vec-items}
+use Rattle.std.specs.declared.option.Option.the-variants.{Some}
+use Rattle.std.proofs.Writes.{shows-is}
+use Rattle.edges.specs.Texts.{run-text, entry-text}
+use Rattle.script.specs.Replies.{meant, reply-text}
+use Rattle.script.proofs.ShownLaws.{counted-text}
+use Rattle.script.proofs.answer.AnswerDisplay.fmt.Needs as need
+
+pub returns-in-Entries : need.returns-in-Entries
+unfolding encode
+returns-in-Entries g c =
+    shows-is (g .W·Write .took) (c .args .f .now) (c .write .last .self) (c .write .result) _ (Some (reply-text (meant (c .args .self .now))))
+    (counted-text entry-text 32 refl (c .len-number .result) (codes " entries ") (c .as-slice-items .result .now) (vec-items (c .in-Entries .entries))
+    (c .len-number .ensures ∙ c .in-Entries .entries .ok .0) (c .as-slice-items .ensures .value)
+    ∙ sym (ap (λ a. Some (reply-text (meant a))) (c .in-Entries .is)))
+    (c .write .ensures .shows)
+
+pub returns-in-Runs : need.returns-in-Runs
+unfolding encode
+returns-in-Runs g c =
+    shows-is (g .W·Write .took) (c .args .f .now) (c .write-in-Runs .last .self) (c .write-in-Runs .result) _ (Some (reply-text (meant (c .args .self .now))))
+    (counted-text run-text 44 refl (c .len-number-in-Runs .result) (codes " runs ") (c .as-slice-items-in-Runs .result .now) (vec-items (c .in-Runs .runs))
+    (c .len-number-in-Runs .ensures ∙ c .in-Runs .runs .ok .0) (c .as-slice-items-in-Runs .ensures .value)
+    ∙ sym (ap (λ a. Some (reply-text (meant a))) (c .in-Runs .is)))
+    (c .write-in-Runs .ensures .shows)
