@@ -3,7 +3,7 @@ use mathlib.Core.List.{List, [], _∷_, _++_, map}
 use mathlib.Core.Bool.{Bool, true, false, cond}
 use Prim.Native.Nat.{ℕ, suc, _+_, _-_, _<_, _≤_}
 use native.Mathlib.Omega.{arith}
-use lib.Dec.{ltb}
+use lib.Dec.{eqb, ltb}
 use lib.Chars.{codes}
 use denote.Ref.{RefT}
 use lib.ListN.{length, getD, take, drop}
@@ -14,13 +14,13 @@ use Rattle.std.specs.declared.result.Result.the-variants.{Ok, Err}
 use Rattle.std.proofs.shelf.Lists.{append-assoc, length-append, take-take, take-at, take-rest}
 use Rattle.edges.specs.Answers.{counted, placed}
 use Rattle.edges.specs.declared.fault.Fault.{Fault}
-use Rattle.std.proofs.shelf.Tests.{cond-true, cond-false, lt-ltb, le-ltb}
+use Rattle.std.proofs.shelf.Tests.{cond-true, cond-false, lt-ltb, le-ltb, eq-eqb, ne-eqb}
 use Rattle.std.proofs.shelf.Equals.{sameBytes-decides}
 use Rattle.std.specs.shelf.Text.{sameBytes}
 use Rattle.script.specs.Lists.{list-in}
-use Rattle.script.specs.Texts.{texts}
+use Rattle.script.specs.Texts.{texts, words-of}
 use Rattle.script.proofs.WordLaws.{no-text}
-use Rattle.script.specs.Replies.{Reply, not-understood, room-too-large, or-refused, room-in, with-list, with-room, list-reply, with-two, lay-reply, compress-reply, command-reply, words-reply}
+use Rattle.script.specs.Replies.{Reply, not-understood, room-too-large, or-refused, room-in, with-list, with-room, list-reply, with-two, lay-reply, compress-reply, command-reply, words-reply, reply}
 
 -- what was written to the front of a place, cut to its number
 pub answered : {A : Type 0} (k : List A → Reply) (a : Result (List A) Fault) (n m : ℕ) (items place before rest : List A)
@@ -91,10 +91,20 @@ module _ (name : List ℕ) (args : List (List ℕ)) where
       ∙ cond-false (sameBytes name (codes "compress")) _ _ (not-named (codes "compress") c))
 
 -- the first word is the name
-pub first-word : (ws : List (RefT (List ℕ))) → 1 ≤ length ws → command-reply (getD ws 0 no-text .now) (texts (take (length ws - 1) (drop 1 ws))) ≡ words-reply (texts ws)
+pub first-word : (ws : List (RefT (List ℕ))) → 1 ≤ length ws
+    → Some (command-reply (getD ws 0 no-text .now) (texts (take (length ws - 1) (drop 1 ws)))) ≡ words-reply (texts ws)
 first-word [] h = absurd (let n : ⊥ = omega arith in n)
-first-word (w ∷ ws) h = ap (λ xs. command-reply (w .now) (texts xs)) (take-rest (w ∷ ws) 1)
+first-word (w ∷ ws) h = ap (λ xs. Some (command-reply (w .now) (texts xs))) (take-rest (w ∷ ws) 1)
 
-pub no-word : (ws : List (RefT (List ℕ))) → length ws ≡ 0 → not-understood ≡ words-reply (texts ws)
+pub no-word : (ws : List (RefT (List ℕ))) → length ws ≡ 0 → None ≡ words-reply (texts ws)
 no-word [] e = refl
 no-word (w ∷ ws) e = absurd (omega arith)
+
+-- a line
+pub comment : (line : List ℕ) → getD line 0 0 ≡ 35 → None ≡ reply line
+unfolding reply
+comment line e = sym (cond-true (eqb (getD line 0 0) 35) None (words-reply (words-of line)) (eq-eqb (getD line 0 0) 35 e))
+
+pub no-comment : (line : List ℕ) → (getD line 0 0 ≡ 35 → ⊥) → words-reply (words-of line) ≡ reply line
+unfolding reply
+no-comment line n = sym (cond-false (eqb (getD line 0 0) 35) None (words-reply (words-of line)) (ne-eqb (getD line 0 0) 35 n))

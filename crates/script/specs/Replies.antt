@@ -2,8 +2,8 @@ use mathlib.Core.List.{List, [], _∷_, _++_, map}
 use mathlib.Core.Bool.{cond}
 use Prim.Native.Nat.{ℕ}
 use lib.Chars.{codes}
-use lib.Dec.{ltb}
-use lib.ListN.{length}
+use lib.Dec.{eqb, ltb}
+use lib.ListN.{length, getD}
 use Rattle.std.specs.Of.Vec.{vec-items}
 use Rattle.std.specs.Written.{decimal}
 use Rattle.std.specs.shelf.Text.{sameBytes}
@@ -100,10 +100,10 @@ command-reply name args =
     (cond (sameBytes name (codes "compress")) (compress-reply args)
     not-understood)
 
-abbrev pub words-reply : List (List ℕ) → Reply
-words-reply [] = not-understood
-words-reply (name ∷ args) = command-reply name args
+abbrev pub words-reply : List (List ℕ) → Option Reply
+words-reply [] = None
+words-reply (name ∷ args) = Some (command-reply name args)
 
--- The reply to a line.
-abbrev pub reply : List ℕ → Reply
-reply line = words-reply (words-of line)
+-- The reply to a line: none to a line that begins with `#`, nor to one without a word.
+unfoldable pub reply : List ℕ → Option Reply
+reply line = cond (eqb (getD line 0 0) 35) None (words-reply (words-of line))

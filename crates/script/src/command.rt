@@ -1,6 +1,7 @@
 ghost use mathlib.Core.Path.{_≡_};
 ghost use mathlib.Core.List.{List};
 ghost use Prim.Native.Nat.{ℕ};
+ghost use Rattle.std.specs.Options.{mapped};
 ghost use Rattle.std.specs.Vec.{made};
 ghost use Rattle.script.specs.Texts.{texts};
 ghost use Rattle.script.specs.Replies.{Reply, meant, room-in, laid-reply, compressed-reply, list-reply, with-two, command-reply, reply};
@@ -107,13 +108,16 @@ fn answer_command(heap: Global, name: &str, arguments: &[&str]) -> Result<Answer
     }
 }
 
-// The answer to a line.
-pub fn answer(heap: Global, line: &str) -> Result<Answer, AllocError>
-    ensures { λ r. ⌜ made r (λ a. meant a ≡ reply (now (line .entry))) ⌝ }
+// The answer to a line; none to a line that begins with `#`, nor to one without a word.
+pub fn answer_line(heap: Global, line: &str) -> Result<Option<Answer>, AllocError>
+    ensures { λ r. ⌜ made r (λ o. mapped meant o ≡ reply (now (line .entry))) ⌝ }
 {
+    if line.starts_with('#') {
+        return Ok(None);
+    }
     let words = words(heap, line)?;
     match words.as_slice() {
-        [] => Ok(Answer::NotUnderstood),
-        [name, arguments @ ..] => answer_command(heap, name, arguments),
+        [] => Ok(None),
+        [name, arguments @ ..] => Ok(Some(answer_command(heap, name, arguments)?)),
     }
 }

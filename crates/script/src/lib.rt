@@ -4,11 +4,9 @@ mod command;
 mod item;
 mod listed;
 mod parts;
+mod program;
 
 pub use answer::Answer;
 pub use answer::AnswerDisplay;
-pub use item::Item;
-pub use item::list;
-pub use listed::Listed;
-pub use listed::ListedDisplay;
-pub use parts::words;
+pub use command::answer_line;
+pub use program::run_script;
