@@ -3,3 +3,4 @@ pub mod WordLaws
 pub mod ListLaws
 pub mod ShownLaws
 pub mod ReplyLaws
+pub mod BackLaws

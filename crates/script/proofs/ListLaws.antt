@@ -23,16 +23,22 @@ use Rattle.script.proofs.TextLaws.{before-mark, after-mark, after-none}
 use Rattle.script.proofs.WordLaws.{no-text}
 
 -- a run
-pub run-whole : (t : List ℕ) → SplitAt 120 t None → run-in t ≡ mapped Single (number-in t)
+pub run-plain : (t : List ℕ) → Lacks 120 t → run-in t ≡ mapped Single (number-in t)
 unfolding run-in
-run-whole t h = ap (run-with t) (after-none 120 t (split-parts 120 t None h (omega arith)))
+run-plain t l = ap (run-with t) (after-none 120 t l)
+
+pub run-marked : (t e n : List ℕ) → t ≡ e ++ 120 ∷ n → Lacks 120 e → run-in t ≡ repeated-in (number-in e) (number-in n)
+unfolding run-in
+run-marked t e n q l =
+    ap (run-with t) (ap (after 120) q ∙ after-mark 120 e n l)
+    ∙ ap (λ s. repeated-in (number-in s) (number-in n)) (ap (before 120) q ∙ before-mark 120 e n l)
+
+-- the same of what `split_once` answers
+pub run-whole : (t : List ℕ) → SplitAt 120 t None → run-in t ≡ mapped Single (number-in t)
+run-whole t h = run-plain t (split-parts 120 t None h (omega arith))
 
 pub run-cut : (t : List ℕ) (e n : RefT (List ℕ)) → SplitAt 120 t (Some (e, n)) → run-in t ≡ repeated-in (number-in (e .now)) (number-in (n .now))
-unfolding run-in
-run-cut t e n h =
-    let cut = split-parts 120 t (Some (e, n)) h (omega arith) in
-    ap (run-with t) (ap (after 120) (cut .0) ∙ after-mark 120 (e .now) (n .now) (cut .1))
-    ∙ ap (λ s. repeated-in (number-in s) (number-in (n .now))) (ap (before 120) (cut .0) ∙ before-mark 120 (e .now) (n .now) (cut .1))
+run-cut t e n h = let cut = split-parts 120 t (Some (e, n)) h (omega arith) in run-marked t (e .now) (n .now) (cut .0) (cut .1)
 
 -- the items of a list, one text after another
 abbrev pub with-done : {A : Type 0} → List A → Option (List A) → Option (List A)

@@ -75,11 +75,11 @@ module _ {A : Type 0} (shown : A → Option (List ℕ)) (m : ℕ) where
         (shows-is took g h (Ok tt) _ _ (ap (more-shown shown m) (take-all i (take (length xs - 1) (drop 1 xs)) all)) p))
 
 -- the texts of more items, with a mark before each
-unfoldable tail-text : ℕ → List (List ℕ) → List ℕ
+unfoldable pub tail-text : ℕ → List (List ℕ) → List ℕ
 tail-text m [] = []
 tail-text m (t ∷ ts) = m ∷ t ++ tail-text m ts
 
-rejoined-tail : (m : ℕ) (t : List ℕ) (ts : List (List ℕ)) → rejoined m (t ∷ ts) ≡ t ++ tail-text m ts
+pub rejoined-tail : (m : ℕ) (t : List ℕ) (ts : List (List ℕ)) → rejoined m (t ∷ ts) ≡ t ++ tail-text m ts
 unfolding tail-text
 rejoined-tail m t [] = sym (append-nil t)
 rejoined-tail m t (u ∷ us) = ap (λ xs. t ++ m ∷ xs) (rejoined-tail m u us)

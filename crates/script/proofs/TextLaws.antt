@@ -9,6 +9,7 @@ use denote.Ref.{RefT}
 use Rattle.std.specs.Options.{Cases, mapped}
 use Rattle.std.specs.Pieces.{Lacks, rejoined}
 use Rattle.std.specs.Runs.{Run, Each}
+use Rattle.std.specs.shelf.Lists.{All}
 use Rattle.std.specs.declared.option.Option.{Option}
 use Rattle.std.specs.declared.option.Option.the-variants.{Some, None}
 use Rattle.std.specs.Results as results
@@ -21,7 +22,7 @@ use Rattle.script.specs.Texts.{before, after, onto-first, parts-at, filled, te
 lacks-head : (m c : ℕ) (cs : List ℕ) → Lacks m (c ∷ cs) → eqb c m ≡ false
 lacks-head m c cs l = ne-eqb c m (l 0 (omega arith))
 
-lacks-tail : (m c : ℕ) (cs : List ℕ) → Lacks m (c ∷ cs) → Lacks m cs
+pub lacks-tail : (m c : ℕ) (cs : List ℕ) → Lacks m (c ∷ cs) → Lacks m cs
 lacks-tail m c cs l = λ k h. l (suc k) (omega arith)
 
 -- a text without the mark
@@ -58,8 +59,7 @@ module _ (m : ℕ) where
   parts-mark (c ∷ cs) ys l = cond-false (eqb c m) _ _ (lacks-head m c cs l) ∙ ap (onto-first c) (parts-mark cs ys (lacks-tail m c cs l))
 
   abbrev pub All-lack : List (List ℕ) → Type 0
-  All-lack [] = Unit {0}
-  All-lack (p ∷ ps) = Lacks m p × All-lack ps
+  All-lack = All (Lacks m)
 
   -- parts that lack the mark, put together with it, are cut apart again
   pub parts-rejoined : (p : List ℕ) (ps : List (List ℕ)) → All-lack (p ∷ ps) → parts-at m (rejoined m (p ∷ ps)) ≡ p ∷ ps

@@ -54,7 +54,7 @@ module _ (parts : List (RefT (List ℕ))) (i : ℕ) (done : List (List ℕ)) (p 
   filled-all l = sym (append-nil done) ∙ ap (λ xs. done ++ xs) (sym (at-drop-all (λ xs. filled (texts xs)) parts i l)) ∙ p
 
 -- a number
-own : Numerals (λ ds. allDigits ds ≡ true) (value 10)
+pub own : Numerals (λ ds. allDigits ds ≡ true) (value 10)
 own = numerals-by-value (λ ds. allDigits ds ≡ true) tells-allDigits
 
 pub number-plus : (t : List ℕ) → getD t 0 0 ≡ 43 → None ≡ number-in t

@@ -2,3 +2,4 @@ pub mod Texts
 pub mod Lists
 pub mod Shown
 pub mod Replies
+pub mod Laws

@@ -3,6 +3,7 @@ ghost use mathlib.Core.List.{List};
 ghost use Prim.Native.Nat.{ℕ};
 ghost use Rattle.std.specs.Options.{mapped};
 ghost use Rattle.std.specs.Vec.{made};
+ghost use Rattle.script.specs.Laws.{Written-is-read};
 ghost use Rattle.script.specs.Texts.{texts};
 ghost use Rattle.script.specs.Replies.{Reply, meant, room-in, laid-reply, compressed-reply, list-reply, with-two, command-reply, reply};
 use crate::answer::Answer;
@@ -110,7 +111,8 @@ fn answer_command(heap: Global, name: &str, arguments: &[&str]) -> Result<Answer
 
 // The answer to a line; none to a line that begins with `#`, nor to one without a word.
 pub fn answer_line(heap: Global, line: &str) -> Result<Option<Answer>, AllocError>
-    ensures { λ r. ⌜ made r (λ o. mapped meant o ≡ reply (now (line .entry))) ⌝ }
+    ensures answer { λ r. ⌜ made r (λ o. mapped meant o ≡ reply (now (line .entry))) ⌝ }
+    ensures back { λ _. ⌜ Written-is-read ⌝ }
 {
     if line.starts_with('#') {
         return Ok(None);
