@@ -217,9 +217,6 @@ module _ (es : List ℕ) (before : List Run) (i e n at : ℕ) (place : List Run)
           kept = drop-set-lt (at + 1) place at (run-of e n) (omega arith) ∙ sym (drop-drop 1 at place) ∙ ap (drop 1) (p .kept) ∙ drop-drop 1 at before;
         }
 
-  pub writing-room : length (runs-of es) ≤ length before → at < length before
-  writing-room h = let m = p .number in omega arith
-
   pub writing-all : length (rest-of es) ≤ i → at < length place
       → set place at (run-of e n) ≡ runs-of es ++ drop (length (runs-of es)) before
   unfolding runs-from changes
@@ -233,6 +230,10 @@ module _ (es : List ℕ) (before : List Run) (i e n at : ℕ) (place : List Run)
       ∙ sym (append-assoc (take at place) (run-of e n ∷ []) (drop (suc at) place))
       ∙ ap (λ ys. ys ++ drop (suc at) place) w
       ∙ ap (λ ys. runs-of es ++ ys) (ap (λ j. drop j place) s ∙ sym (drop-drop 1 at place) ∙ ap (drop 1) (p .kept) ∙ drop-drop 1 at before ∙ ap (λ j. drop j before) k)
+
+pub writing-room : {es : List ℕ} {before : List Run} {i e n at : ℕ} {place : List Run} → Writing es before i e n at place → length (runs-of es) ≤ length before
+    → at < length before
+writing-room p h = let m = p .number in omega arith
 
 -- what `number_of_runs` answers
 pub runs-ok : (es : List ℕ) (n : ℕ) → Ok n ≡ runs-answer es → (has-zero es ≡ false) × (n ≡ length (runs-of es))

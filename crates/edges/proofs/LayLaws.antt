@@ -19,7 +19,7 @@ use Rattle.edges.specs.declared.fault.Cause.the-variants.{Zero, Overflow, Shor
 use Rattle.edges.specs.Refusals.{edges-refusal}
 use Rattle.edges.specs.Runs.{run-edge, run-count, expand, total, offsets, zero-in, zero-in-some}
 use Rattle.edges.specs.Answers.{number-answer, lay-answer, counted, placed, Laid, no-entry}
-use Rattle.edges.proofs.RunLaws.{no-run, total-append, total-replicate, length-expand, total-expand, edge-positive}
+use Rattle.edges.proofs.RunLaws.{no-run, total-append, total-replicate, length-expand, total-expand, edge-positive, count-positive}
 
 abbrev pub row : ℕ → ℕ → OffsetSize
 row o e = record { offset = o; size = e }
@@ -133,6 +133,15 @@ pub record Laying (rs : List Run) (before : List OffsetSize) (i at offset : ℕ)
   pub room : length (expand rs) ≤ length before
   pub fits : total (expand rs) < 2 ^ 64
 
+-- the run at i: its edge and its count, p, neither of them 0, its room and its end
+pub record Here (rs : List Run) (before : List OffsetSize) (i at offset : ℕ) (p : ℕ × ℕ) : Type 0 where
+  pub edge : p .0 ≡ run-edge (getD rs i no-run)
+  pub count : p .1 ≡ run-count (getD rs i no-run)
+  pub some-edge : 1 ≤ p .0
+  pub some-count : 1 ≤ p .1
+  pub room : at + p .1 ≤ length before
+  pub fits : offset + p .0 * p .1 < 2 ^ 64
+
 pub laying-none : (rs : List Run) (before : List OffsetSize) (n : ℕ) → Ok n ≡ number-answer rs → n ≤ length before → Laying rs before 0 0 0 before
 laying-none rs before n p h =
     let k = number-ok rs n p in
@@ -159,17 +168,18 @@ module _ (rs : List Run) (before : List OffsetSize) (i at offset : ℕ) (table :
     sum-here : total (expand (drop i rs)) ≡ e * n + total (expand (drop (i + 1) rs))
     sum-here = ap total edges-here ∙ total-append (replicate n e) (expand (drop (i + 1) rs)) ∙ ap (λ m. m + total (expand (drop (i + 1) rs))) (total-replicate n e)
 
-    -- the run has an edge, there is room for it, and its end fits
-    pub laying-here : (1 ≤ e) × (at + n ≤ length before) × (offset + e * n < 2 ^ 64)
+    -- the run has an edge and a count, there is room for it, and its end fits
+    pub laying-here : Here rs before i at offset (e, n)
     laying-here =
         let z = edge-positive (getD rs i no-run) (zeros-here .0) in
+        let y = count-positive (getD rs i no-run) (zeros-here .0) in
         let a = number-here in
         let b = sum-here in
         let c = p .number in
         let d = p .sums in
         let r = p .room in
         let f = p .fits in
-        ((omega arith), (omega arith), (omega arith))
+        record { edge = es; count = ns; some-edge = omega arith; some-count = omega arith; room = omega arith; fits = omega arith }
 
     pub laying-more : length table ≡ length before → (k : ℕ) (part : List OffsetSize) → k ≡ n → part ≡ offsets offset (replicate n e)
         → Laying rs before (i + 1) (at + n) (offset + e * n) (putMid at k table part)
@@ -180,7 +190,7 @@ module _ (rs : List Run) (before : List OffsetSize) (i at offset : ℕ) (table :
         let c = p .number in
         let d = p .sums in
         let g : length part ≡ n = ap length ps ∙ length-offsets offset (replicate n e) ∙ length-replicate n e in
-        let s : at ≤ length table = omega (arith, h .1) in
+        let s : at ≤ length table = (let k = h .room in omega arith) in
         record {
           zeros = zeros-here .1;
           number = omega arith;
@@ -227,22 +237,17 @@ laid-law rs n before table e q =
           ∙ offset-at 0 (expand rs) k (omega arith) ∙ zero-add (total (take k (expand rs))),
     )
 
--- what the match on a run gives
-abbrev pub Parted : Run → ℕ × ℕ → Type 0
-Parted r p = (p .0 ≡ run-edge r) × (p .1 ≡ run-count r)
-
-pub parted : (r s : Run) (p : ℕ × ℕ) → r ≡ s → p ≡ (run-edge s, run-count s) → Parted r p
-parted r s p q e = (ap (λ x. x .0) e ∙ sym (ap run-edge q), ap (λ x. x .1) e ∙ sym (ap run-count q))
-
 pub part-length : (at n : ℕ) (table : List OffsetSize) → at + n ≤ length table → length (take (at + n - at) (drop at table)) ≡ n
 part-length at n table h =
     let d = length-drop at table in
     let e : at + n - at ≡ n = omega arith in
     length-take-le (at + n - at) (drop at table) (omega arith) ∙ e
 
-pub count-positive : (r : Run) (n : ℕ) → zero-in r ≡ false → n ≡ run-count r → 1 ≤ n
-count-positive r n z e = let h = eqb-false (run-count r) 0 (or-parts (eqb (run-edge r) 0) (eqb (run-count r) 0) z .1) in omega arith
+-- the same where a match took the run apart
+pub matched-here : (rs : List Run) (before : List OffsetSize) (i at offset : ℕ) (table : List OffsetSize) → Laying rs before i at offset table → i < length rs
+    → (r : Run) (p : ℕ × ℕ) → getD rs i no-run ≡ r → p ≡ (run-edge r, run-count r) → Here rs before i at offset p
+matched-here rs before i at offset table h l r p q e =
+    laying-here rs before i at offset table h l (p .0) (p .1) (ap (λ x. x .0) e ∙ sym (ap run-edge q)) (ap (λ x. x .1) e ∙ sym (ap run-count q))
 
-pub laying-zero : (rs : List Run) (before : List OffsetSize) (i at offset : ℕ) (table : List OffsetSize) → Laying rs before i at offset table
-    → i < length rs → zero-in (getD rs i no-run) ≡ false
-laying-zero rs before i at offset table p l = zeros-here rs before i at offset table p l (run-edge (getD rs i no-run)) (run-count (getD rs i no-run)) refl refl .0
+pub same-product : {a b e n : ℕ} → a ≡ e → b ≡ n → a * b ≡ e * n
+same-product {b = b} {e = e} p q = ap (λ x. x * b) p ∙ ap (λ x. e * x) q

@@ -61,6 +61,9 @@ parts-err r f p = go (zero-in r) refl p where
 pub edge-positive : (r : Run) → zero-in r ≡ false → 1 ≤ run-edge r
 edge-positive r z = let h = eqb-false (run-edge r) 0 (or-parts (eqb (run-edge r) 0) (eqb (run-count r) 0) z .0) in omega arith
 
+pub count-positive : (r : Run) → zero-in r ≡ false → 1 ≤ run-count r
+count-positive r z = let h = eqb-false (run-count r) 0 (or-parts (eqb (run-edge r) 0) (eqb (run-count r) 0) z .1) in omega arith
+
 none-le-none : length (expand []) ≤ total (expand [])
 unfolding expand total
 none-le-none = omega arith

@@ -14,7 +14,7 @@ use std::alloc::AllocError;
 use std::alloc::Global;
 
 // What can stand in a list of the script.
-pub trait Item: Copy {
+pub(crate) trait Item: Copy {
     ghost reads: { List ℕ → Option Self };
 
     // The item that a text writes.
@@ -56,7 +56,7 @@ fn each<T: Item>(heap: Global, words: &[&str]) -> Result<Option<Vec<T>>, AllocEr
 }
 
 // The list that a text writes.
-pub fn list<T: Item>(heap: Global, text: &str) -> Result<Option<Vec<T>>, AllocError>
+pub(crate) fn list<T: Item>(heap: Global, text: &str) -> Result<Option<Vec<T>>, AllocError>
     ensures { λ r. ⌜ made r (λ o. mapped vec-items o ≡ list-in (T·Item .reads) (now (text .entry))) ⌝ }
 {
     if text == "-" {

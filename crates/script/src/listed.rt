@@ -4,7 +4,7 @@ use std::fmt;
 
 // Some items as a list: `-` for none, else with a mark between each two.
 #[derive(Drop)]
-pub struct Listed<'a, T> {
+pub(crate) struct Listed<'a, T> {
     pub items: &'a [T],
     pub mark: char,
 }

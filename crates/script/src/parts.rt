@@ -8,7 +8,7 @@ use std::alloc::AllocError;
 use std::alloc::Global;
 
 // The parts of a text between its marks.
-pub fn parts<'a>(heap: Global, text: &'a str, mark: char) -> Result<Vec<&'a str>, AllocError>
+pub(crate) fn parts<'a>(heap: Global, text: &'a str, mark: char) -> Result<Vec<&'a str>, AllocError>
     requires { ⌜ mark < 128 ⌝ }
     ensures { λ r. ⌜ made r (λ v. texts (vec-items v) ≡ parts-at mark (now (text .entry))) ⌝ }
 {
@@ -29,7 +29,7 @@ fn filled<'a>(heap: Global, parts: &[&'a str]) -> Result<Vec<&'a str>, AllocErro
 }
 
 // The words of a line, between spaces.
-pub fn words<'a>(heap: Global, line: &'a str) -> Result<Vec<&'a str>, AllocError>
+pub(crate) fn words<'a>(heap: Global, line: &'a str) -> Result<Vec<&'a str>, AllocError>
     ensures { λ r. ⌜ made r (λ v. texts (vec-items v) ≡ words-of (now (line .entry))) ⌝ }
 {
     let all = parts(heap, line, ' ')?;
@@ -37,7 +37,7 @@ pub fn words<'a>(heap: Global, line: &'a str) -> Result<Vec<&'a str>, AllocError
 }
 
 // The number that a text writes.
-pub fn number(text: &str) -> Option<u64>
+pub(crate) fn number(text: &str) -> Option<u64>
     ensures { λ r. ⌜ r ≡ number-in (now (text .entry)) ⌝ }
 {
     if text.starts_with('+') {
@@ -47,7 +47,7 @@ pub fn number(text: &str) -> Option<u64>
 }
 
 // The value of a word such as `room=4`, if its name is this one.
-pub fn field<'a>(name: &str, word: &'a str) -> Option<&'a str>
+pub(crate) fn field<'a>(name: &str, word: &'a str) -> Option<&'a str>
     ensures { λ r. ⌜ mapped (λ x. x .now) r ≡ field-in (now (name .entry)) (now (word .entry)) ⌝ }
 {
     match word.split_once('=') {
