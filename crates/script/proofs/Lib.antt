@@ -1,6 +1,3 @@
-pub mod TextLaws
-pub mod WordLaws
-pub mod ListLaws
-pub mod ShownLaws
-pub mod ReplyLaws
-pub mod BackLaws
+pub mod NameLaws
+pub mod ArgumentLaws
+pub mod QuestionLaws

@@ -1,5 +1,4 @@
-pub mod Texts
-pub mod Lists
-pub mod Shown
 pub mod Replies
-pub mod Laws
+pub mod Names
+pub mod Arguments
+pub mod Questions

@@ -1,0 +1,11 @@
+pub mod Never
+pub mod Asked
+pub mod ProductLaws
+pub mod Making
+pub mod Stored
+pub mod GatherLaws
+pub mod ElementLaws
+pub mod RegionLaws
+pub mod InboundsLaws
+pub mod GatheredLaws
+pub mod FoundLaws

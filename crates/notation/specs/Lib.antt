@@ -1,0 +1,4 @@
+pub mod Texts
+pub mod Lists
+pub mod Shown
+pub mod Laws

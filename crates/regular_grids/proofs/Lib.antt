@@ -1,0 +1,4 @@
+pub mod LengthAnswers
+pub mod LengthLaws
+pub mod FixedAnswers
+pub mod BoundedAnswers
