@@ -1,3 +1,5 @@
 pub mod NameLaws
 pub mod ArgumentLaws
 pub mod QuestionLaws
+pub mod ReplyLaws
+pub mod LineLaws

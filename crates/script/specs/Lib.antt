@@ -2,3 +2,4 @@ pub mod Replies
 pub mod Names
 pub mod Arguments
 pub mod Questions
+pub mod Lines

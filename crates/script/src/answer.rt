@@ -27,7 +27,6 @@ pub enum Answer {
     NotUnderstood,
 }
 
-
 pub impl fmt::Display for Answer as AnswerDisplay {
     ghost shown = { λ a. Some (reply-text (meant a)) };
 

@@ -6,9 +6,9 @@ ghost use Rattle.grids.specs.Places.{Gives};
 ghost use Rattle.script.specs.Questions.{answered-reply, shape-answer, about-answer, dimensionality-reply, shape-reply, numbers-reply, subset-reply, inbounds-reply, chunks-in-reply, fits-reply, question-reply};
 ghost use Rattle.script.specs.Replies.{meant};
 use crate::answer::Answer;
+use crate::argument::none;
 use crate::argument::number_field;
 use crate::argument::numbers_field;
-use crate::argument::none;
 use crate::argument::one;
 use crate::argument::two;
 use crate::name::About;
@@ -42,11 +42,7 @@ fn answered(answer: Result<Option<()>, Fault>, found: Answer) -> Answer
 }
 
 // A shape of the grid, into a place.
-fn shape_into<G: ChunkGrid>(
-    grid: &G,
-    shape: Shape,
-    place: &mut [u64],
-) -> Result<Option<()>, Fault>
+fn shape_into<G: ChunkGrid>(grid: &G, shape: Shape, place: &mut [u64]) -> Result<Option<()>, Fault>
     ensures { λ r. ⌜ Gives (now (place .entry)) (now (place .exit)) r (shape-answer shape (axes (now (grid .entry))) (length (now (place .entry)))) ⌝ }
 {
     match shape {

@@ -24,8 +24,8 @@ returns g c = record {
   list =
       made-weaker (c .each .result) _ _
       (λ o e.
-          e ∙ ap (λ xs. each-in (g .T·Item .reads) (texts xs)) (c .as-slice .ensures .value) ∙ ap (each-in (g .T·Item .reads)) (c .in-Continue-words .ensures tt)
-          ∙ list-items (g .T·Item .reads) (c .args .text .now) (λ d. both-ways false refl (c .if-eq .ensures tt .1 d)))
+      e ∙ ap (λ xs. each-in (g .T·Item .reads) (texts xs)) (c .as-slice .ensures .value) ∙ ap (each-in (g .T·Item .reads)) (c .in-Continue-words .ensures tt)
+      ∙ list-items (g .T·Item .reads) (c .args .text .now) (λ d. both-ways false refl (c .if-eq .ensures tt .1 d)))
       (c .each .ensures);
   back = written-is-read;
 }
