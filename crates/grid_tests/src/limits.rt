@@ -127,3 +127,28 @@ fn wrong_lengths_of_two_places() -> Result<(), Fail> {
     check_eq(short[0], OLD)?;
     check_eq(place[0], OLD)
 }
+
+#[test]
+fn wrong_lengths_of_places() -> Result<(), Fail> {
+    let (grid, _) = RegularBounded::new(&[10, 10], &[4, 4]);
+    let mut long = [OLD, OLD, OLD];
+    let mut place = [OLD, OLD];
+    check_eq(
+        chunk_origin(&grid, &[1, 1], &mut long),
+        refused(Cause::Length, 255),
+    )?;
+    check_eq(
+        chunk_element_indices(&grid, &[1, 1], &mut long),
+        refused(Cause::Length, 255),
+    )?;
+    check_eq(
+        chunks_in_array_subset(&grid, &[1, 1], &[1, 1], &mut long, &mut place),
+        refused(Cause::Length, 255),
+    )?;
+    check_eq(
+        chunks_in_array_subset(&grid, &[1, 1], &[1, 1], &mut place, &mut long),
+        refused(Cause::Length, 255),
+    )?;
+    check_eq(long[0], OLD)?;
+    check_eq(place[0], OLD)
+}
