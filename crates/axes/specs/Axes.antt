@@ -42,7 +42,7 @@ unfoldable pub last-below : ℕ → (ℕ → Bool) → Option ℕ
 last-below zero t = None
 last-below (suc n) t = elim (t n) [ true ↦ Some n | false ↦ last-below n t ]
 
--- the chunk that contains index i: chunk k begins at k or later, so 0 .. i are searched
+-- the chunk that contains index i: chunk k begins at k or later, so 0 .. i are looked through
 unfoldable pub chunk-of : Axis → ℕ → Option ℕ
 chunk-of x i = last-below (suc i) (λ k. holds x k i)
 

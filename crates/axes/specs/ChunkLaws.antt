@@ -51,7 +51,7 @@ holds-contains x k i h = go (x .edge k) refl h
 pub contains-holds : (x : Axis) (k i : ℕ) → Contains x k i → holds x k i ≡ true
 contains-holds x k i (e, p, low, high) = rw p (and-from _ _ (le-leb _ _ low) (lt-ltb _ _ high))
 
--- the search
+-- looking through the chunks
 pub last-below-passes : (n : ℕ) (t : ℕ → Bool) (k : ℕ) → last-below n t ≡ Some k → t k ≡ true
 unfolding last-below
 last-below-passes zero t k h = cc

@@ -10,5 +10,6 @@ pub use item::list;
 pub use listed::Listed;
 pub use listed::ListedDisplay;
 pub use parts::field;
+pub use parts::items;
 pub use parts::number;
 pub use parts::words;

@@ -15,6 +15,13 @@ pub(crate) fn parts<'a>(heap: Global, text: &'a str, mark: char) -> Result<Vec<&
     text.split(mark).collect(heap)
 }
 
+// The items of a text, between semicolons.
+pub fn items<'a>(heap: Global, text: &'a str) -> Result<Vec<&'a str>, AllocError>
+    ensures { λ r. ⌜ made r (λ v. texts (vec-items v) ≡ parts-at 59 (now (text .entry))) ⌝ }
+{
+    parts(heap, text, ';')
+}
+
 // Those parts that are not empty.
 fn filled<'a>(heap: Global, parts: &[&'a str]) -> Result<Vec<&'a str>, AllocError>
     ensures { λ r. ⌜ made r (λ v. texts (vec-items v) ≡ filled-parts (texts (now (parts .entry)))) ⌝ }

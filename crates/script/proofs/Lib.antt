@@ -3,3 +3,4 @@ pub mod ArgumentLaws
 pub mod QuestionLaws
 pub mod ReplyLaws
 pub mod LineLaws
+pub mod TableLaws

@@ -2,4 +2,5 @@ pub mod Replies
 pub mod Names
 pub mod Arguments
 pub mod Questions
+pub mod Tables
 pub mod Lines

@@ -5,26 +5,32 @@ use Prim.Native.Nat.{ℕ}
 use lib.Chars.{codes}
 use lib.Dec.{eqb}
 use lib.ListN.{getD}
+use Rattle.std.specs.Of.Vec.{vec-items}
 use Rattle.std.specs.Options.{mapped}
 use Rattle.std.specs.shelf.Text.{sameBytes}
+use Rattle.std.specs.declared.vec.Vec.{Vec}
 use Rattle.std.specs.declared.option.Option.{Option}
 use Rattle.std.specs.declared.option.Option.the-variants.{Some, None}
 use Rattle.std.specs.declared.result.Result.{Result}
 use Rattle.std.specs.declared.result.Result.the-variants.{Ok, Err}
 use Rattle.edges.specs.Answers.{lay-answer, compress-answer}
 use Rattle.edges.specs.declared.fault.Fault.{Fault}
+use Rattle.edges.specs.declared.table.OffsetSize.{OffsetSize}
 use Rattle.edges.specs.declared.table.Run.{Run}
 use Rattle.axes.specs.Axes.{Axis}
-use Rattle.regular_grids.specs.RegularAxes.{regular-axes, new-regular, bounded-axes, new-bounded}
-use Rattle.notation.specs.Texts.{words-of, number-in}
+use Rattle.regular_grids.specs.RegularAxes.{new-regular, new-bounded}
+use Rattle.table_grids.specs.Kinds.{new-rectangular, new-rectilinear}
+use Rattle.table_grids.specs.declared.dimension.Dimension.{Dimension}
+use Rattle.notation.specs.Texts.{words-of, number-in, field-in}
 use Rattle.notation.specs.Lists.{list-in, run-in}
 use Rattle.script.specs.declared.current.Current.{Current}
-use Rattle.script.specs.declared.current.Current.the-variants.{Regular, Bounded}
+use Rattle.script.specs.declared.current.Current.the-variants.{Regular, Bounded, Rectangular, Rectilinear, Refused}
 use Rattle.script.specs.declared.name.Command.{Command}
 use Rattle.script.specs.declared.name.Command.the-variants.{Lay, Compress, Grid, Ask}
 use Rattle.script.specs.Arguments.{with-read, with-room, two-of, three-of, number-field, numbers-field}
 use Rattle.script.specs.Names.{command-named}
 use Rattle.script.specs.Questions.{question-reply}
+use Rattle.script.specs.Tables.{Laying, axes-in}
 use Rattle.script.specs.Replies.{Reply, entries, runs, ok, refused, not-understood}
 
 -- A command over a list, with room for its answer.
@@ -38,39 +44,61 @@ abbrev pub or-refused : {A : Type 0} → (List A → Reply) → Result (List A) 
 or-refused k (Ok xs) = k xs
 or-refused k (Err f) = refused f
 
+-- What a vector or a refusal holds.
+abbrev pub items-in : {A Z : Type 0} → Result (Vec A Z) Fault → Result (List A) Fault
+items-in (Ok v) = Ok (vec-items v)
+items-in (Err f) = Err f
+
 abbrev pub laid-reply : List Run → ℕ → Reply
 laid-reply xs n = or-refused entries (lay-answer xs n)
 
 abbrev pub compressed-reply : List ℕ → ℕ → Reply
 compressed-reply xs n = or-refused runs (compress-answer xs n)
 
--- The axes of the current grid.
-abbrev pub current-axes : Current → List Axis
-current-axes (Regular g) = regular-axes g
-current-axes (Bounded g) = bounded-axes g
+-- What the making of the current grid gives.
+abbrev pub current-making : Current → Result (List Axis) Fault
+current-making (Regular sizes edges) = new-regular (vec-items sizes) (vec-items edges)
+current-making (Bounded sizes edges) = new-bounded (vec-items sizes) (vec-items edges)
+current-making (Rectangular sizes axes table) = new-rectangular (vec-items sizes) (vec-items axes) (vec-items table)
+current-making (Rectilinear sizes axes table) = new-rectilinear (vec-items sizes) (vec-items axes) (vec-items table)
+current-making (Refused f) = Err f
 
--- What a kind of grid makes of sizes and edges.
+-- What is made of laid axes; a refusal of the laying is the grid's.
+abbrev pub laid-making : (List Dimension → List OffsetSize → Result (List Axis) Fault) → Laying → Option Fault → Result (List Axis) Fault
+laid-making new l None = new (l .dimensions) (l .table)
+laid-making new l (Some f) = Err f
+
+abbrev pub axes-making : (List Dimension → List OffsetSize → Result (List Axis) Fault) → Laying → Result (List Axis) Fault
+axes-making new l = laid-making new l (l .fault)
+
+-- What a kind of grid makes of sizes and the text of its edges or axes.
 abbrev pub kind-making : List ℕ → List ℕ → List ℕ → Option (Result (List Axis) Fault)
-kind-making kind sizes edges =
-    cond (sameBytes kind (codes "regular")) (Some (new-regular sizes edges))
-    (cond (sameBytes kind (codes "bounded")) (Some (new-bounded sizes edges))
-    None)
+kind-making kind sizes spec =
+    cond (sameBytes kind (codes "regular")) (mapped (new-regular sizes) (list-in number-in spec))
+    (cond (sameBytes kind (codes "bounded")) (mapped (new-bounded sizes) (list-in number-in spec))
+    (cond (sameBytes kind (codes "rectangular")) (mapped (axes-making (new-rectangular sizes)) (axes-in spec))
+    (cond (sameBytes kind (codes "rectilinear")) (mapped (axes-making (new-rectilinear sizes)) (axes-in spec))
+    None)))
 
 abbrev pub if-read : {A B : Type 0} → Option A → (A → Option B) → Option B
 if-read None k = None
 if-read (Some x) k = k x
 
--- `grid KIND sizes=LIST spec=LIST`
+-- `grid KIND sizes=LIST spec=TEXT`
 abbrev pub making-in : List (List ℕ) → Option (Result (List Axis) Fault)
 making-in args =
     if-read (three-of args) (λ t.
     if-read (numbers-field (codes "sizes") (t .1)) (λ sizes.
-    if-read (numbers-field (codes "spec") (t .2)) (kind-making (t .0) sizes)))
+    if-read (field-in (codes "spec") (t .2)) (kind-making (t .0) sizes)))
 
 -- What a making answers, and the axes of the grid beside it: none beside a refusal.
 abbrev pub outcome : Result (List Axis) Fault → Result (Unit {0}) Fault × List Axis
 outcome (Ok xs) = (Ok tt, xs)
 outcome (Err f) = (Err f, [])
+
+-- The axes of the current grid: none where it is refused.
+abbrev pub current-axes : Current → List Axis
+current-axes c = outcome (current-making c) .1
 
 abbrev pub making-reply : Result (Unit {0}) Fault → Reply
 making-reply (Ok u) = ok

@@ -2,12 +2,14 @@
 mod answer;
 mod argument;
 mod current;
+mod laying;
 mod line;
 mod listing;
 mod making;
 mod name;
 mod program;
 mod question;
+mod tables;
 
 pub use answer::Answer;
 pub use answer::AnswerDisplay;

@@ -21,10 +21,16 @@ use edges::Run;
 use notation::NumberItem;
 use notation::RunItem;
 use notation::words;
+use regular_grids::Regular;
+use regular_grids::RegularBounded;
 use regular_grids::RegularBoundedChunkGrid;
 use regular_grids::RegularChunkGrid;
 use std::alloc::AllocError;
 use std::alloc::Global;
+use table_grids::Rectangular;
+use table_grids::RectangularChunkGrid;
+use table_grids::Rectilinear;
+use table_grids::RectilinearChunkGrid;
 
 // The answer of the current grid to a question.
 fn ask(
@@ -35,22 +41,39 @@ fn ask(
 ) -> Result<Answer, AllocError>
     ensures { λ r. ⌜ made r (λ a. meant a ≡ question-reply (current-axes (now (current .entry))) question (texts (now (arguments .entry)))) ⌝ }
 {
-    let grid = *current;
-    match grid {
-        Current::Regular(grid) => answer_question(heap, &grid, question, arguments),
-        Current::Bounded(grid) => answer_question(heap, &grid, question, arguments),
+    match current {
+        Current::Regular(sizes, edges) => {
+            let (grid, _) = Regular::new(sizes.as_slice(), edges.as_slice());
+            answer_question(heap, &grid, question, arguments)
+        }
+        Current::Bounded(sizes, edges) => {
+            let (grid, _) = RegularBounded::new(sizes.as_slice(), edges.as_slice());
+            answer_question(heap, &grid, question, arguments)
+        }
+        Current::Rectangular(sizes, axes, table) => {
+            let (grid, _) = Rectangular::new(sizes.as_slice(), axes.as_slice(), table.as_slice());
+            answer_question(heap, &grid, question, arguments)
+        }
+        Current::Rectilinear(sizes, axes, table) => {
+            let (grid, _) = Rectilinear::new(sizes.as_slice(), axes.as_slice(), table.as_slice());
+            answer_question(heap, &grid, question, arguments)
+        }
+        Current::Refused(_) => {
+            let (grid, _) = Regular::new(&[], &[]);
+            answer_question(heap, &grid, question, arguments)
+        }
     }
 }
 
-// `grid KIND sizes=LIST spec=LIST`: makes the current grid.
+// `grid KIND sizes=LIST spec=TEXT`: makes the current grid.
 fn set_grid(heap: Global, current: &mut Current, arguments: &[&str]) -> Result<Answer, AllocError>
     ensures answer { λ r. ⌜ made r (λ a. meant a ≡ made-reply (outcome-in (texts (now (arguments .entry))))) ⌝ }
     ensures after { λ r. ⌜ Becomes r (current-axes (now (current .entry))) (current-axes (now (current .exit))) (made-axes (current-axes (now (current .entry))) (outcome-in (texts (now (arguments .entry))))) ⌝ }
 {
-    let Some(making) = make(heap, arguments)? else {
+    let Some(grid) = make(heap, arguments)? else {
         return Ok(Answer::NotUnderstood);
     };
-    let (grid, answer) = making;
+    let answer = grid.made();
     *current = grid;
     match answer {
         Ok(()) => Ok(Answer::Made),

@@ -3,11 +3,13 @@ ghost use mathlib.Core.List.{List};
 ghost use Prim.Native.Nat.{ℕ};
 ghost use Rattle.std.specs.Vec.{made};
 ghost use Rattle.notation.specs.Texts.{texts};
-ghost use Rattle.script.specs.Lines.{laid-reply, compressed-reply, list-reply};
+ghost use Rattle.edges.specs.Answers.{lay-answer, compress-answer};
+ghost use Rattle.script.specs.Lines.{items-in, laid-reply, compressed-reply, list-reply};
 ghost use Rattle.script.specs.Replies.{Reply, meant};
 use crate::answer::Answer;
 use crate::argument::number_field;
 use crate::argument::two;
+use edges::Fault;
 use edges::OffsetSize;
 use edges::Run;
 use edges::compress;
@@ -28,6 +30,42 @@ pub(crate) trait ListCommand<T> {
         ensures { λ r. ⌜ made r (λ a. meant a ≡ replies (now (items .entry)) room) ⌝ };
 }
 
+// The table of runs laid into this many entries, or the refusal.
+pub(crate) fn laid(
+    heap: Global,
+    runs: &[Run],
+    room: usize,
+) -> Result<Result<Vec<OffsetSize>, Fault>, AllocError>
+    ensures { λ r. ⌜ made r (λ o. items-in o ≡ lay-answer (now (runs .entry)) room) ⌝ }
+{
+    let mut table = vec![in heap; OffsetSize { offset: 0, size: 0 }; room]?;
+    match lay(runs, &mut table) {
+        Ok(number) => {
+            table.truncate(number);
+            Ok(Ok(table))
+        }
+        Err(fault) => Ok(Err(fault)),
+    }
+}
+
+// The runs of edges compressed into this many entries, or the refusal.
+fn compressed(
+    heap: Global,
+    edges: &[u64],
+    room: usize,
+) -> Result<Result<Vec<Run>, Fault>, AllocError>
+    ensures { λ r. ⌜ made r (λ o. items-in o ≡ compress-answer (now (edges .entry)) room) ⌝ }
+{
+    let mut place = vec![in heap; Run::Single(0); room]?;
+    match compress(edges, &mut place) {
+        Ok(number) => {
+            place.truncate(number);
+            Ok(Ok(place))
+        }
+        Err(fault) => Ok(Err(fault)),
+    }
+}
+
 pub(crate) struct Lay;
 
 pub(crate) struct Compress;
@@ -36,12 +74,8 @@ pub(crate) impl ListCommand<Run> for Lay as LayCommand {
     ghost replies = { laid-reply };
 
     fn carry_out(heap: Global, items: &[Run], room: usize) -> Result<Answer, AllocError> {
-        let mut table = vec![in heap; OffsetSize { offset: 0, size: 0 }; room]?;
-        match lay(items, &mut table) {
-            Ok(number) => {
-                table.truncate(number);
-                Ok(Answer::Entries(table))
-            }
+        match laid(heap, items, room)? {
+            Ok(table) => Ok(Answer::Entries(table)),
             Err(fault) => Ok(Answer::Refused(fault)),
         }
     }
@@ -51,12 +85,8 @@ pub(crate) impl ListCommand<u64> for Compress as CompressCommand {
     ghost replies = { compressed-reply };
 
     fn carry_out(heap: Global, items: &[u64], room: usize) -> Result<Answer, AllocError> {
-        let mut place = vec![in heap; Run::Single(0); room]?;
-        match compress(items, &mut place) {
-            Ok(number) => {
-                place.truncate(number);
-                Ok(Answer::Runs(place))
-            }
+        match compressed(heap, items, room)? {
+            Ok(runs) => Ok(Answer::Runs(runs)),
             Err(fault) => Ok(Answer::Refused(fault)),
         }
     }

@@ -20,7 +20,7 @@ fn serve(rt: &LibcRuntime, heap: Global, current: &mut Current, bytes: &[u8]) ->
 // Reads a script on standard input, a command a line, and prints each command with its answer.
 pub fn run_script(rt: &LibcRuntime) -> io::Result<()> {
     let heap = rt.alloc();
-    let mut current = Current::none();
+    let mut current = Current::none(heap);
     for line in BufReader::new(rt.stdin()).split(heap, b'\n') {
         let bytes = line?;
         serve(rt, heap, &mut current, bytes.as_slice())?;

@@ -1,0 +1,6 @@
+pub mod Entries
+pub mod Halving
+pub mod LongestLaws
+pub mod Tables
+pub mod NewLaws
+pub mod LaidLaws

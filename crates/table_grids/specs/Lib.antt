@@ -1,0 +1,7 @@
+pub mod Spans
+pub mod Causes
+pub mod Valid
+pub mod Views
+pub mod TableAxes
+pub mod Kinds
+pub mod LaidSpans
