@@ -1,16 +1,13 @@
-use mathlib.Core.Path.{_≡_, refl, sym, ap, subst, _∙_}
+use mathlib.Core.Path.{_≡_, refl, sym, ap, _∙_}
 use mathlib.Core.List.{List, [], _∷_, _++_}
 use mathlib.Core.Bool.{Bool, true, false, cond, _||_}
-use mathlib.Core.Logic.{⊎-elim}
-use Prim.Native.Nat.{ℕ, zero, suc, _+_, _-_, _<_, _≤_, _^_}
-use native.Mathlib.Nat.{zero-add}
+use Prim.Native.Nat.{ℕ, zero, suc, _+_, _-_, _<_, _≤_}
 use native.Mathlib.Omega.{arith}
 use lib.Dec.{eqb, leb}
 use lib.ListN.{length, getD, drop, take, set}
-use Rattle.std.specs.declared.result.Result.{Result}
 use Rattle.std.specs.declared.result.Result.the-variants.{Ok, Err}
-use Rattle.std.proofs.shelf.Lists.{drop-more, drop-drop, drop-set-lt, at-drop-all, append-assoc, append-nil, take-more-set, set-split, take-rest, length-drop}
-use Rattle.std.proofs.shelf.Tests.{eqb-false, eq-eqb, ne-eqb, or-parts, cond-true, cond-false, le-leb, lt-leb, cases-bool, eqb-true}
+use Rattle.std.proofs.shelf.Lists.{drop-more, drop-drop, drop-set-lt, at-drop-all, append-assoc, take-more-set, set-split, take-rest}
+use Rattle.std.proofs.shelf.Tests.{eqb-false, eq-eqb, ne-eqb, or-parts, cond-true, cond-false, le-leb, lt-leb}
 use Rattle.edges.specs.declared.table.Run.{Run}
 use Rattle.edges.specs.declared.fault.Fault.{Fault}
 use Rattle.edges.specs.declared.fault.Cause.the-variants.{Zero, Short}

@@ -1,25 +1,24 @@
-use mathlib.Core.Path.{_≡_, refl, sym, ap, subst, _∙_}
+use mathlib.Core.Path.{_≡_, refl, sym, ap, _∙_}
 use mathlib.Core.List.{List, [], _∷_, _++_, map}
-use mathlib.Core.Bool.{Bool, true, false, cond, _||_}
+use mathlib.Core.Bool.{Bool, true, false, cond}
 use Prim.Native.Nat.{ℕ, zero, suc, _+_, _*_, _-_, _<_, _≤_, _^_}
 use native.Mathlib.Nat.{zero-add, add-zero, mul-zero, mul-add, add-assoc, mul-one, mul-le-mul-left}
 use native.Mathlib.Omega.{arith}
-use lib.Dec.{eqb, ltb, leb}
+use lib.Dec.{ltb, leb}
 use lib.ListN.{length, getD, drop, take, replicate, set}
 use borrow.Rule.Slice.PartMut.{putMid}
-use Rattle.std.specs.declared.result.Result.{Result}
 use Rattle.std.specs.declared.result.Result.the-variants.{Ok, Err}
 use Rattle.std.proofs.shelf.Lists.{drop-more, drop-drop, at-drop-all, length-append, length-replicate, append-assoc, append-nil, take-more-set, take-all, take-at, take-append-drop, replicate-more, getD-append-left, length-take-le, length-drop}
 use Rattle.std.proofs.shelf.Parts.{take-putMid, drop-putMid}
-use Rattle.std.proofs.shelf.Tests.{eqb-false, or-parts, cond-true, cond-false, lt-ltb, le-ltb, le-leb, lt-leb, ltb-true}
+use Rattle.std.proofs.shelf.Tests.{or-parts, cond-true, cond-false, le-leb, lt-leb, ltb-true}
 use Rattle.edges.specs.declared.table.Run.{Run}
 use Rattle.edges.specs.declared.table.OffsetSize.{OffsetSize}
 use Rattle.edges.specs.declared.fault.Fault.{Fault}
 use Rattle.edges.specs.declared.fault.Cause.the-variants.{Zero, Overflow, Short}
 use Rattle.edges.specs.Refusals.{edges-refusal}
 use Rattle.edges.specs.Runs.{run-edge, run-count, expand, total, offsets, zero-in, zero-in-some}
-use Rattle.edges.specs.Answers.{number-answer, lay-answer, counted, placed, Laid, no-entry}
-use Rattle.edges.proofs.RunLaws.{no-run, total-append, total-replicate, length-expand, total-expand, edge-positive, count-positive}
+use Rattle.edges.specs.Answers.{number-answer, lay-answer, Laid, no-entry}
+use Rattle.edges.proofs.RunLaws.{no-run, total-append, total-replicate, edge-positive, count-positive}
 
 abbrev pub row : ℕ → ℕ → OffsetSize
 row o e = record { offset = o; size = e }

@@ -1,18 +1,17 @@
-use mathlib.Core.Path.{_≡_, refl, sym, ap, subst, _∙_}
+use mathlib.Core.Path.{_≡_, refl, sym, ap, _∙_}
 use mathlib.Core.List.{List, [], _∷_, _++_}
 use mathlib.Core.Bool.{Bool, true, false, cond, _||_}
-use mathlib.Core.Logic.{⊎-elim}
 use Prim.Native.Nat.{ℕ, zero, suc, _+_, _*_, _-_, _<_, _≤_, _^_, min}
 use native.Mathlib.Nat.{zero-add, mul-zero, mul-add, add-assoc, mul-one, one-mul, mul-le-mul-right}
 use native.Mathlib.Omega.{arith}
 use lib.Dec.{eqb, ltb}
-use lib.ListN.{length, getD, drop, take, replicate}
+use lib.ListN.{length, getD, drop, replicate}
 use Rattle.std.specs.declared.result.Result.{Result}
 use Rattle.std.specs.declared.result.Result.the-variants.{Ok, Err}
 use Rattle.std.proofs.shelf.Lists.{drop-more, at-drop-all, length-append, length-replicate}
 use Rattle.std.proofs.shelf.Tests.{eqb-false, or-parts, cond-true, cond-false, lt-ltb, le-ltb}
 use Rattle.edges.specs.declared.table.Run.{Run}
-use Rattle.edges.specs.declared.table.Run.the-variants.{Single, Repeated}
+use Rattle.edges.specs.declared.table.Run.the-variants.{Single}
 use Rattle.edges.specs.declared.fault.Fault.{Fault}
 use Rattle.edges.specs.declared.fault.Cause.the-variants.{Zero, Overflow}
 use Rattle.edges.specs.Refusals.{edges-refusal}

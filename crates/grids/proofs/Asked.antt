@@ -1,4 +1,4 @@
-use mathlib.Core.Path.{_≡_, ap, subst}
+use mathlib.Core.Path.{_≡_, subst}
 use mathlib.Core.List.{List, [], _∷_}
 use Prim.Native.Nat.{ℕ, zero, suc, _<_, _≤_, _^_}
 use lib.Dec.{ltb}
@@ -7,7 +7,6 @@ use Rattle.std.specs.declared.result.Result.the-variants.{Ok, Err}
 use Rattle.edges.specs.declared.fault.Cause.the-variants.{Overflow}
 use native.Mathlib.Nat.{zero-add}
 use Rattle.std.specs.Runs.{nth}
-use Rattle.std.specs.declared.option.Option.{Option}
 use Rattle.std.specs.declared.option.Option.the-variants.{Some, None}
 use Rattle.axes.specs.Axes.{Axis, Each, axes-by}
 use Rattle.axes.specs.AxisLaws.{nth-from, nth-after}

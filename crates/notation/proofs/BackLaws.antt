@@ -1,7 +1,7 @@
-use mathlib.Core.Path.{_≡_, refl, sym, ap, subst, _∙_}
+use mathlib.Core.Path.{_≡_, refl, sym, ap, _∙_}
 use mathlib.Core.List.{List, [], _∷_, _++_, map}
 use mathlib.Core.Bool.{true, _&&_}
-use Prim.Native.Nat.{ℕ, zero, suc, _<_, _≤_, _^_}
+use Prim.Native.Nat.{ℕ, zero, suc, _<_, _^_}
 use native.Mathlib.Omega.{arith}
 use lib.Chars.{codes}
 use lib.Dec.{ltb}
@@ -14,15 +14,14 @@ use Rattle.std.specs.Written.{decimal}
 use Rattle.std.specs.shelf.Lists.{All}
 use Rattle.std.specs.shelf.Text.{allDigits}
 use Rattle.std.specs.declared.option.Option.{Option}
-use Rattle.std.specs.declared.option.Option.the-variants.{Some, None}
+use Rattle.std.specs.declared.option.Option.the-variants.{Some}
 use Rattle.std.proofs.shelf.Decimals.{decimal-some, digits-decimal, value-decimal}
-use Rattle.std.proofs.shelf.Lists.{getD-append-left}
 use Rattle.std.proofs.shelf.Numerals.{not-in-digits}
 use Rattle.std.proofs.shelf.Tests.{cond-true, and-from, lt-ltb}
 use Rattle.edges.specs.Texts.{run-text}
 use Rattle.edges.specs.declared.table.Run.{Run}
 use Rattle.edges.specs.declared.table.Run.the-variants.{Single, Repeated}
-use Rattle.notation.specs.Texts.{parts-at, number-in}
+use Rattle.notation.specs.Texts.{number-in}
 use Rattle.notation.specs.Lists.{onto, each-in, list-in, list-text, repeated-in, run-in}
 use Rattle.notation.specs.Laws.{Small, Small-run, Written-is-read}
 use Rattle.notation.proofs.TextLaws.{lacks-tail, All-lack, parts-rejoined}

@@ -1,7 +1,7 @@
-use mathlib.Core.Path.{_≡_, refl, sym, ap, subst, _∙_}
+use mathlib.Core.Path.{_≡_, refl, sym, ap, _∙_}
 use mathlib.Core.List.{List, [], _∷_, _++_, map}
-use mathlib.Core.Bool.{Bool, true, false, cond, _&&_}
-use Prim.Native.Nat.{ℕ, zero, suc, _+_, _<_, _≤_, _^_}
+use mathlib.Core.Bool.{Bool, true, false, cond}
+use Prim.Native.Nat.{ℕ, _+_, _<_, _≤_}
 use native.Mathlib.Omega.{arith}
 use lib.ListN.{length, getD, drop}
 use lib.Chars.{codes}
@@ -15,8 +15,7 @@ use Rattle.std.proofs.shelf.Equals.{sameBytes-decides}
 use Rattle.std.proofs.shelf.Patterns.{SplitAt, split-parts}
 use Rattle.std.proofs.shelf.Tests.{cond-true, cond-false}
 use Rattle.std.proofs.shelf.Lists.{append-assoc, append-nil, drop-more, at-drop-all}
-use Rattle.edges.specs.declared.table.Run.{Run}
-use Rattle.edges.specs.declared.table.Run.the-variants.{Single, Repeated}
+use Rattle.edges.specs.declared.table.Run.the-variants.{Single}
 use Rattle.notation.specs.Texts.{before, after, parts-at, number-in, texts}
 use Rattle.notation.specs.Lists.{onto, each-in, list-in, repeated-in, run-with, run-in}
 use Rattle.notation.proofs.TextLaws.{before-mark, after-mark, after-none}

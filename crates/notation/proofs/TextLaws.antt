@@ -1,10 +1,10 @@
 use mathlib.Core.Path.{_≡_, refl, sym, ap, subst, _∙_}
 use mathlib.Core.List.{List, [], _∷_, _++_, map}
-use mathlib.Core.Bool.{Bool, true, false, cond, _&&_}
-use Prim.Native.Nat.{ℕ, zero, suc, _+_, _<_, _≤_, _^_}
+use mathlib.Core.Bool.{true, false, cond}
+use Prim.Native.Nat.{ℕ, suc, _+_, _<_}
 use native.Mathlib.Omega.{arith}
-use lib.Dec.{eqb, ltb}
-use lib.ListN.{length, getD, drop}
+use lib.Dec.{eqb}
+use lib.ListN.{length, getD}
 use denote.Ref.{RefT}
 use Rattle.std.specs.Options.{Cases, mapped}
 use Rattle.std.specs.Pieces.{Lacks, rejoined}
@@ -17,7 +17,7 @@ use Rattle.std.specs.Vec.{made}
 use Rattle.std.specs.declared.result.Result.{Result}
 use Rattle.std.specs.declared.result.Result.the-variants.{Ok, Err}
 use Rattle.std.proofs.shelf.Tests.{cond-true, cond-false, eq-eqb, ne-eqb}
-use Rattle.notation.specs.Texts.{before, after, onto-first, parts-at, filled, texts}
+use Rattle.notation.specs.Texts.{before, after, onto-first, parts-at, texts}
 
 lacks-head : (m c : ℕ) (cs : List ℕ) → Lacks m (c ∷ cs) → eqb c m ≡ false
 lacks-head m c cs l = ne-eqb c m (l 0 (omega arith))

@@ -1,9 +1,9 @@
 use mathlib.Core.Path.{_≡_, refl, sym, ap, subst, _∙_}
-use mathlib.Core.List.{List, [], _∷_, _++_, map}
+use mathlib.Core.List.{List, [], _∷_, _++_}
 use mathlib.Core.Bool.{Bool, true, false, cond, _&&_}
-use Prim.Native.Nat.{ℕ, zero, suc, _+_, _<_, _≤_, _^_}
+use Prim.Native.Nat.{ℕ, _+_, _<_, _≤_, _^_}
 use native.Mathlib.Omega.{arith}
-use lib.Dec.{eqb, ltb}
+use lib.Dec.{ltb}
 use lib.ListN.{length, getD, drop}
 use denote.Ref.{RefT}
 use Rattle.std.specs.Numbers.{Converted}
@@ -11,14 +11,13 @@ use Rattle.std.specs.Pieces.{Lacks}
 use Rattle.std.specs.Reads.{value, ReadsUnsigned}
 use Rattle.std.specs.Results.{okPart}
 use Rattle.std.specs.shelf.Text.{allDigits, sameBytes}
-use Rattle.std.specs.declared.option.Option.{Option}
 use Rattle.std.specs.declared.option.Option.the-variants.{Some, None}
 use Rattle.std.specs.declared.result.Result.{Result}
 use Rattle.std.specs.declared.result.Result.the-variants.{Ok, Err}
 use Rattle.std.proofs.shelf.Equals.{sameBytes-decides}
 use Rattle.std.proofs.shelf.Lists.{append-assoc, append-nil, drop-more, at-drop-all}
 use Rattle.std.proofs.shelf.Numerals.{Numerals, numerals-by-value, tells-allDigits, parse-plain}
-use Rattle.std.proofs.shelf.Tests.{cond-true, cond-false, lt-ltb, ltb-true, and-parts, and-from, cases-bool}
+use Rattle.std.proofs.shelf.Tests.{cond-true, lt-ltb, ltb-true, and-parts, and-from}
 use Rattle.notation.specs.Texts.{before, after, filled, texts, number-in, field-in}
 use Rattle.notation.proofs.TextLaws.{before-mark, after-mark, after-none}
 

@@ -1,11 +1,9 @@
-use mathlib.Core.Path.{_≡_, refl, sym, ap, subst, _∙_}
-use Prim.Native.Nat.{ℕ, _+_, _<_, _≤_}
+use mathlib.Core.Path.{sym, ap, subst, _∙_}
 use native.Mathlib.Omega.{arith}
 use lib.ListN.{length}
 use Rattle.std.specs.declared.result.Result.the-variants.{Ok, Err}
 use Rattle.std.proofs.shelf.Results.{err-from-errBy}
 use Rattle.edges.specs.Answers.{counted, placed, Shortest}
-use Rattle.edges.specs.Runs.{runs-of}
 use Rattle.edges.proofs.JoinLaws.{runs-ok, runs-err, place-short, place-enough}
 use Rattle.edges.proofs.ShortestLaw.{shortest-law}
 use Rattle.edges.proofs.compressing.compress.Needs as need

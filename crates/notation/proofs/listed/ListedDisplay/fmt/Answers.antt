@@ -1,13 +1,9 @@
 use borrow.Author.Needs.{needs}
-use mathlib.Core.Path.{_≡_, refl, sym, ap, subst, _∙_}
-use Prim.Native.Nat.{_-_, _<_, _≤_}
+use Prim.Native.Nat.{_-_}
 use native.Mathlib.Omega.{arith}
 use lib.ListN.{length, take, drop}
-use Rattle.std.specs.declared.result.Result.the-variants.{Ok}
-use Rattle.std.proofs.Writes.{shows-then, shows-is}
-use Rattle.std.proofs.shelf.Lists.{take-all}
-use Rattle.notation.specs.Shown.{more-shown}
-use Rattle.notation.proofs.ShownLaws.{Listing, list-none, list-some, listing-none, listing-more, listing-all}
+use Rattle.std.proofs.Writes.{shows-is}
+use Rattle.notation.proofs.ShownLaws.{list-none, listing-none, listing-more, listing-all}
 use Rattle.notation.proofs.listed.ListedDisplay.fmt.Needs as need
 
 pub returns-in-rest : need.returns-in-rest

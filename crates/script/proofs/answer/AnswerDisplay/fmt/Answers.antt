@@ -1,4 +1,4 @@
-use mathlib.Core.Path.{_≡_, refl, sym, ap, _∙_}
+use mathlib.Core.Path.{refl, sym, ap, _∙_}
 use lib.Chars.{codes}
 use lib.Utf8.{encode}
 use Rattle.std.specs.Of.Vec.{vec-items}
