@@ -1,4 +1,6 @@
 // Cases of the grids and of the questions over index lists; nothing here is to use.
+#![tactic(auto)]
+
 #[cfg(test)]
 mod answers;
 #[cfg(test)]

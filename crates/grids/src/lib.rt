@@ -1,4 +1,6 @@
 // Chunk grids: what each of them answers, and the questions over index lists that any of them serves.
+#![tactic(auto)]
+
 mod gathered;
 mod grid;
 mod products;

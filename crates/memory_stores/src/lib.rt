@@ -1,4 +1,6 @@
 // Stores over memory that the caller supplies: flat, pool and archive.
+#![tactic(auto)]
+
 mod archive;
 mod directory;
 mod extent;

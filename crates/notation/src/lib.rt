@@ -1,4 +1,6 @@
 // How scripts write words, numbers, fields and lists, and how lists are written back.
+#![tactic(auto)]
+
 mod item;
 mod listed;
 mod parts;

@@ -1,4 +1,6 @@
 // Grids whose chunks have one edge on each axis: regular, and bounded by the array.
+#![tactic(auto)]
+
 mod lengths;
 mod making;
 mod reading;

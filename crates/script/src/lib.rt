@@ -1,4 +1,6 @@
 // The commands of the program: a line of text in, its answer out.
+#![tactic(auto)]
+
 mod answer;
 mod argument;
 mod current;

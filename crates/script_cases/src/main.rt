@@ -1,4 +1,6 @@
 // Runs the program on many small scripts, whose answers were worked out by hand.
+#![tactic(auto)]
+
 use std::io;
 
 fn main(rt: HostRuntime) -> io::Result<()> {

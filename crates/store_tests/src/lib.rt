@@ -1,4 +1,6 @@
 // Cases of the stores over supplied memory; nothing here is to use.
+#![tactic(auto)]
+
 #[cfg(test)]
 mod archives;
 #[cfg(test)]

@@ -1,4 +1,6 @@
 // Kinds of element, and the interfaces of stores, which hold the values of chunks.
+#![tactic(auto)]
+
 pub mod element;
 mod store;
 

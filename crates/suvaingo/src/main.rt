@@ -1,4 +1,6 @@
 // The program: a script of commands on standard input, each answered on standard output.
+#![tactic(auto)]
+
 use std::io;
 
 fn main(rt: HostRuntime) -> io::Result<()> {

@@ -1,5 +1,7 @@
 // Prints how many times a second `chunk_indices` is answered on tables of growing length.
 // Without an argument it prints how to call it, so that the gate does not measure time.
+#![tactic(auto)]
+
 use edges::{OffsetSize, Run, lay};
 use grids::chunk_indices;
 use std::env;

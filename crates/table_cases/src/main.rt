@@ -1,4 +1,6 @@
 // Runs the program on scripts that ask grids over tables, whose answers were worked out by hand.
+#![tactic(auto)]
+
 use std::io;
 
 fn main(rt: HostRuntime) -> io::Result<()> {

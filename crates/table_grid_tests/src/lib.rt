@@ -1,4 +1,6 @@
 // Cases of the grids over tables; nothing here is to use.
+#![tactic(auto)]
+
 #[cfg(test)]
 mod cases;
 #[cfg(test)]

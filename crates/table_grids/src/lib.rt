@@ -1,4 +1,6 @@
 // Grids that read their edges from a table in the caller's memory: rectangular and rectilinear.
+#![tactic(auto)]
+
 mod checking;
 mod dimension;
 mod making;
