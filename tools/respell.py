@@ -14,7 +14,10 @@ import re
 
 HERE = os.path.dirname(os.path.realpath(__file__))
 WORD = re.compile(r"[^\s(){}\[\];,.λ:`\"|]+")
-FIELDS = {"edge-fits", "size-fits", "count-fits", "absent-fill", "adds-up", "limit-small", "past-limit", "past-width"}
+FIELDS = {
+    "edge-fits", "size-fits", "count-fits", "absent-fill", "adds-up", "limit-small", "past-limit", "past-width",
+    "some-edge", "some-count", "zero-so-far", "total-so-far", "laid-so-far",
+}
 
 
 def table():

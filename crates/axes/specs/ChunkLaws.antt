@@ -1,4 +1,4 @@
-use Rattle.std.specs.Prelude.{◌≡◌, ℕ, zero, suc, ◌+◌, ◌<◌, ◌≤◌, Bool, true, false, ◌⊎◌, is_some, Some, None, Option, nat_le, nat_lt, refl}
+use Rattle.std.specs.Prelude.{◌≡◌, ℕ, zero, suc, ◌+◌, ◌<◌, ◌≤◌, Bool, true, false, is_some, Some, None, Option, nat_le, nat_lt, refl}
 use Rattle.std.proofs.Common.{ap, ⊎_elim, zero-le, arith, le_refl, le_trans}
 use Rattle.std.proofs.Math.Arith.{le-zero}
 use Rattle.std.specs.Option.{unwrap_or}

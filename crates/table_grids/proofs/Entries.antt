@@ -37,13 +37,13 @@ module _ (es : List OffsetSize) (i end : ℕ) (zeroed : Bool) (p : Passed es i e
     passed_more z o f e =
         let h = drop_more es i no_entry l in
         record {
-          laid_so_far = sym (ap (laid end) h ∙ ap (λ b. b && laid (end + (get_or es i no_entry).size) (drop (i + 1) es)) (eq-eqb _ _ o)) ∙ p.laid-so-far;
+          laid_so_far = sym (ap (laid end) h ∙ ap (λ b. b && laid (end + (get_or es i no_entry).size) (drop (i + 1) es)) (eq-eqb _ _ o)) ∙ p.laid_so_far;
           zero_so_far = ap (λ b. b || has_zero (sizes (drop (i + 1) es))) e
               ∙ or_assoc zeroed (eqb (get_or es i no_entry).size 0) (has_zero (sizes (drop (i + 1) es)))
-              ∙ sym (ap (λ xs. zeroed || has_zero (sizes xs)) h) ∙ p.zero-so-far;
+              ∙ sym (ap (λ xs. zeroed || has_zero (sizes xs)) h) ∙ p.zero_so_far;
           total_so_far =
               let t : total (sizes (drop i es)) ≡ (get_or es i no_entry).size + total (sizes (drop (i + 1) es)) = ap (λ xs. total (sizes xs)) h in
-              let q = p.total-so-far in
+              let q = p.total_so_far in
               omega arith;
           small = let q = p.small in omega arith;
         }
@@ -51,23 +51,23 @@ module _ (es : List OffsetSize) (i end : ℕ) (zeroed : Bool) (p : Passed es i e
     pub broken : ((get_or es i no_entry).offset ≡ end → ⊥) → laid 0 es ≡ false
     unfolding laid
     broken n =
-        sym p.laid-so-far ∙ ap (laid end) (drop_more es i no_entry l)
+        sym p.laid_so_far ∙ ap (laid end) (drop_more es i no_entry l)
         ∙ ap (λ b. b && laid (end + (get_or es i no_entry).size) (drop (i + 1) es)) (ne_eqb _ _ n)
 
   module _ (l : length es ≤ i) where
     all_laid : laid 0 es ≡ true
     unfolding laid
-    all_laid = sym p.laid-so-far ∙ at_drop_all (laid end) es i l
+    all_laid = sym p.laid_so_far ∙ at_drop_all (laid end) es i l
 
     all_zero : has_zero (sizes es) ≡ zeroed
     unfolding has_zero
-    all_zero = sym p.zero-so-far ∙ at_drop_all (λ xs. zeroed || has_zero (sizes xs)) es i l ∙ or_false zeroed
+    all_zero = sym p.zero_so_far ∙ at_drop_all (λ xs. zeroed || has_zero (sizes xs)) es i l ∙ or_false zeroed
 
     all_total : total (sizes es) ≡ end
     unfolding total
     all_total =
         let t : total (sizes (drop i es)) ≡ 0 = at_drop_all (λ xs. total (sizes xs)) es i l in
-        let q = p.total-so-far in
+        let q = p.total_so_far in
         omega arith
 
     -- the cause, by what the pass has found

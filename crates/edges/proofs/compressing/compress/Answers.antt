@@ -5,10 +5,10 @@ use Rattle.edges.proofs.JoinLaws.{runs_ok, runs_err, place_short, place_enough}
 use Rattle.edges.proofs.ShortestLaw.{shortest_law}
 use Rattle.edges.proofs.compressing.compress.Goals as goal
 
-pub returns-in-err-number : goal.returns-in-err-number
-returns-in-err-number c =
-    let p = err_from_is_err_and c.from-residual.result c.from-residual.ensures.1 in
-    let q = runs_err c.args.edges.now (length c.args.place.now) c.in-err-number.field-0.0 c.in-err-number.ensures in
+pub returns-in_err-number : goal.returns-in_err-number
+returns-in_err-number c =
+    let p = err_from_is_err_and c.from_residual.result c.from_residual.ensures.1 in
+    let q = runs_err c.args.edges.now (length c.args.place.now) c.in_err-number.field-0.0 c.in_err-number.ensures in
     record {
       answer = p.1 ∙ ap Err p.2 ∙ sym (ap counted q);
       after = sym (ap (λ a. placed a c.args.place.now) q);
@@ -17,21 +17,21 @@ returns-in-err-number c =
 
 pub returns-then-number-place : goal.returns-then-number-place
 returns-then-number-place c =
-    let q = place_short c.args.edges.now (length c.args.place.now) c.in-ok-number.number c.in-ok-number.ensures (omega arith) in
+    let q = place_short c.args.edges.now (length c.args.place.now) c.in_ok-number.number c.in_ok-number.ensures (omega arith) in
     record { answer = ap Err c.new.ensures ∙ sym (ap counted q); after = sym (ap (λ a. placed a c.args.place.now) q); shortest = tt }
 
-pub write-runs-requires : goal.write-runs-requires
-write-runs-requires c =
-    let k = runs_ok c.args.edges.now c.in-ok-number.number c.in-ok-number.ensures in
+pub write_runs-requires : goal.write_runs-requires
+write_runs-requires c =
+    let k = runs_ok c.args.edges.now c.in_ok-number.number c.in_ok-number.ensures in
     let n = k.1 in
     record { edges = k.0; room = omega arith }
 
 pub returns : goal.returns
 returns c =
-    let q = place_enough c.args.edges.now (length c.args.place.now) c.in-ok-number.number c.in-ok-number.ensures (omega arith) in
-    let n = (runs_ok c.args.edges.now c.in-ok-number.number c.in-ok-number.ensures).1 in
+    let q = place_enough c.args.edges.now (length c.args.place.now) c.in_ok-number.number c.in_ok-number.ensures (omega arith) in
+    let n = (runs_ok c.args.edges.now c.in_ok-number.number c.in_ok-number.ensures).1 in
     record {
       answer = ap Ok n ∙ sym (ap counted q);
-      after = c.write-runs.ensures ∙ sym (ap (λ a. placed a c.args.place.now) q);
-      shortest = shortest_law c.args.edges.now c.in-ok-number.number c.args.place.now c.write-runs.new.place n c.write-runs.ensures;
+      after = c.write_runs.ensures ∙ sym (ap (λ a. placed a c.args.place.now) q);
+      shortest = shortest_law c.args.edges.now c.in_ok-number.number c.args.place.now c.write_runs.new.place n c.write_runs.ensures;
     }
