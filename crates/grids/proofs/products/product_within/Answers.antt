@@ -4,20 +4,20 @@ use Rattle.axes.specs.Fitting.{product}
 use Rattle.grids.proofs.ProductLaws.{product_none, product_some, product_more, product_over, decided_yes, decided_no}
 use Rattle.grids.proofs.products.product_within.Goals as goal
 
-pub returns-then-has-zero : goal.returns-then-has-zero
-returns-then-has-zero c = decided_yes (let z = product_none c.args.numbers.now (sym c.has-zero.ensures ∙ c.if-has-zero.true) in omega arith)
+pub returns-then-has_zero : goal.returns-then-has_zero
+returns-then-has_zero c = decided_yes (let z = product_none c.args.numbers.now (sym c.has_zero.ensures ∙ c.if-has_zero.true) in omega arith)
 
 pub returns-then-limit-eq0 : goal.returns-then-limit-eq0
-returns-then-limit-eq0 c = decided_no (λ q. let p = product_some c.args.numbers.now (sym c.has-zero.ensures ∙ c.if-has-zero.false) in omega arith)
+returns-then-limit-eq0 c = decided_no (λ q. let p = product_some c.args.numbers.now (sym c.has_zero.ensures ∙ c.if-has_zero.false) in omega arith)
 
 pub returns-then-p-limit : goal.returns-then-p-limit
 returns-then-p-limit c =
-    decided_no (product_over c.args.numbers.now c.loop-n.n-index c.loop-n.so_far c.args.limit (sym c.has-zero.ensures ∙ c.if-has-zero.false) (omega arith) c.loop-n.invariant.0
+    decided_no (product_over c.args.numbers.now c.loop-n.n-index c.loop-n.so_far c.args.limit (sym c.has_zero.ensures ∙ c.if-has_zero.false) (omega arith) c.loop-n.invariant.0
     (let e = c.in-Some.ensures.1 in omega arith))
 
 pub returns-in-None : goal.returns-in-None
 returns-in-None c =
-    decided_no (product_over c.args.numbers.now c.loop-n.n-index c.loop-n.so_far c.args.limit (sym c.has-zero.ensures ∙ c.if-has-zero.false) (omega arith) c.loop-n.invariant.0
+    decided_no (product_over c.args.numbers.now c.loop-n.n-index c.loop-n.so_far c.args.limit (sym c.has_zero.ensures ∙ c.if-has_zero.false) (omega arith) c.loop-n.invariant.0
     (let f = c.ranges.limit.fits in omega (arith, c.in-None.ensures)))
 
 pub loop-n-preserved : goal.loop-n-preserved

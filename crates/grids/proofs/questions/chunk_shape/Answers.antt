@@ -5,6 +5,6 @@ use Rattle.grids.proofs.questions.chunk_shape.Goals as goal
 pub returns : goal.returns
 returns g c =
     record {
-      answer = c.answer-list.ensures;
-      by-axis = axis_by_axis edge_answer (g.G.ChunkGrid.axes c.args.grid.now) c.args.chunk.now c.args.place.now c.answer-list.new.place c.answer-list.result c.answer-list.ensures;
+      answer = c.answer_list.ensures;
+      by_axis = axis_by_axis edge_answer (g.G.ChunkGrid.axes c.args.grid.now) c.args.chunk.now c.args.place.now c.answer_list.new.place c.answer_list.result c.answer_list.ensures;
     }

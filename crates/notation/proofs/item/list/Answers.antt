@@ -13,15 +13,15 @@ returns-then-eq g c = record {
   back = written_is_read;
 }
 
-pub returns-in-err-words : goal.returns-in-err-words
-returns-in-err-words g c = record { list = search rules; back = written_is_read }
+pub returns-in_err-words : goal.returns-in_err-words
+returns-in_err-words g c = record { list = search rules; back = written_is_read }
 
 pub returns : goal.returns
 returns g c = record {
   list =
       IfOk-weaker c.each.result _ _
       (λ o e.
-      e ∙ ap (λ xs. each_in g.T-as-Item.reads (texts xs)) c.as-slice.ensures.value ∙ ap (each_in g.T-as-Item.reads) c.in-ok-words.ensures
+      e ∙ ap (λ xs. each_in g.T-as-Item.reads (texts xs)) c.as_slice.ensures.value ∙ ap (each_in g.T-as-Item.reads) c.in_ok-words.ensures
       ∙ list_items g.T-as-Item.reads c.args.text.now (λ d. both_ways false refl (c.if-eq.ensures.1 d)))
       c.each.ensures;
   back = written_is_read;
