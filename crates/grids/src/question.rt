@@ -23,7 +23,7 @@ pub(crate) enum Question {
 
 // The length of a chunk's edge.
 fn edge_length<G: ChunkGrid>(grid: &G, axis: usize, chunk: u64) -> Option<u64>
-    ensures { result ≡ asked (axes grid.now) axis (λ x. x.edge chunk) }
+    ensures { result ≡ asked (G.axes grid.now) axis (λ x. x.edge chunk) }
 {
     let edge = grid.edge(axis, chunk)?;
     Some(edge.get())
@@ -31,8 +31,8 @@ fn edge_length<G: ChunkGrid>(grid: &G, axis: usize, chunk: u64) -> Option<u64>
 
 // Where a chunk ends.
 fn end<G: ChunkGrid>(grid: &G, axis: usize, chunk: u64) -> Result<Option<u64>, Fault>
-    requires { axis < length (axes grid.now) }
-    ensures { result ≡ end_answer (axes grid.now) axis chunk }
+    requires { axis < length (G.axes grid.now) }
+    ensures { result ≡ end_answer (G.axes grid.now) axis chunk }
 {
     let length = match edge_length(grid, axis, chunk) {
         Some(length) => length,
@@ -53,7 +53,7 @@ fn end<G: ChunkGrid>(grid: &G, axis: usize, chunk: u64) -> Result<Option<u64>, F
 
 // An index less the origin of its chunk.
 fn element<G: ChunkGrid>(grid: &G, axis: usize, index: u64) -> Option<u64>
-    ensures { result ≡ asked (axes grid.now) axis (λ x. element_of x index) }
+    ensures { result ≡ asked (G.axes grid.now) axis (λ x. element_of x index) }
 {
     let chunk = grid.chunk_at(axis, index)?;
     match grid.origin(axis, chunk) {
@@ -70,8 +70,8 @@ fn ask<G: ChunkGrid>(
     axis: usize,
     number: u64,
 ) -> Result<Option<u64>, Fault>
-    requires { axis < length (axes grid.now) }
-    ensures { result ≡ answer question (axes grid.now) axis number }
+    requires { axis < length (G.axes grid.now) }
+    ensures { result ≡ answer question (G.axes grid.now) axis number }
 {
     match question {
         Question::Size => Ok(grid.size(axis)),
@@ -86,8 +86,8 @@ fn ask<G: ChunkGrid>(
 
 // Asks each axis about its number.
 pub(crate) fn ask_each<G: ChunkGrid>(grid: &G, question: Question, numbers: &[u64]) -> Gathered
-    requires { length numbers.now ≡ length (axes grid.now) }
-    ensures { Gathers result (λ a. answer question (axes grid.now) a (slice_index numbers.now a)) (length (axes grid.now)) }
+    requires { length numbers.now ≡ length (G.axes grid.now) }
+    ensures { Gathers result (λ a. answer question (G.axes grid.now) a (slice_index numbers.now a)) (length (G.axes grid.now)) }
 {
     let mut found = Gathered::none();
     for a in 0..numbers.len() {
@@ -99,7 +99,7 @@ pub(crate) fn ask_each<G: ChunkGrid>(grid: &G, question: Question, numbers: &[u6
 // The number of chunks that hold `extent` indices from `start` on.
 fn chunk_number<G: ChunkGrid>(grid: &G, axis: usize, start: u64, extent: u64) -> Option<u64>
     requires { (1 ≤ extent) × (start + extent < 2 ^ 64) }
-    ensures { result ≡ asked (axes grid.now) axis (λ x. chunks_between (chunk_of x start) (chunk_of x (start + extent - 1))) }
+    ensures { result ≡ asked (G.axes grid.now) axis (λ x. chunks_between (chunk_of x start) (chunk_of x (start + extent - 1))) }
 {
     let first = grid.chunk_at(axis, start)?;
     let last = grid.chunk_at(axis, start + extent - 1)?;
@@ -108,11 +108,11 @@ fn chunk_number<G: ChunkGrid>(grid: &G, axis: usize, start: u64, extent: u64) ->
 
 // The number of chunks that hold a region, on each axis.
 pub(crate) fn chunk_numbers<G: ChunkGrid>(grid: &G, start: &[u64], shape: &[u64]) -> Gathered
-    requires start { length start.now ≡ length (axes grid.now) }
-    requires shape { length shape.now ≡ length (axes grid.now) }
-    requires some { (a : ℕ) → a < length (axes grid.now) → 1 ≤ slice_index shape.now a }
-    requires within { (a : ℕ) → a < length (axes grid.now) → slice_index start.now a + slice_index shape.now a < 2 ^ 64 }
-    ensures { Gathers result (λ a. number_answer (axes grid.now) a (slice_index start.now a) (slice_index shape.now a)) (length (axes grid.now)) }
+    requires start { length start.now ≡ length (G.axes grid.now) }
+    requires shape { length shape.now ≡ length (G.axes grid.now) }
+    requires some { (a : ℕ) → a < length (G.axes grid.now) → 1 ≤ slice_index shape.now a }
+    requires within { (a : ℕ) → a < length (G.axes grid.now) → slice_index start.now a + slice_index shape.now a < 2 ^ 64 }
+    ensures { Gathers result (λ a. number_answer (G.axes grid.now) a (slice_index start.now a) (slice_index shape.now a)) (length (G.axes grid.now)) }
 {
     let mut found = Gathered::none();
     for a in 0..start.len() {
@@ -123,7 +123,7 @@ pub(crate) fn chunk_numbers<G: ChunkGrid>(grid: &G, start: &[u64], shape: &[u64]
 
 // Whether an index is in bounds on an axis.
 pub(crate) fn axis_inbounds<G: ChunkGrid>(grid: &G, axis: usize, index: u64) -> bool
-    ensures { result ≡ axis_inbounds index (slice_get (axes grid.now) axis) }
+    ensures { result ≡ axis_inbounds index (slice_get (G.axes grid.now) axis) }
 {
     match grid.chunk_at(axis, index) {
         None => false,

@@ -16,7 +16,7 @@ fn answer_shape<G: ChunkGrid>(
     question: Question,
     place: &mut [u64],
 ) -> Result<Option<()>, Fault>
-    ensures { Gives place.old place.new result (sized (length place.old ∷ []) (length (axes grid.now)) (each_answer (answer question) (axes grid.now) place.old)) }
+    ensures { Gives place.old place.new result (sized (length place.old ∷ []) (length (G.axes grid.now)) (each_answer (answer question) (G.axes grid.now) place.old)) }
 {
     if place.len() != grid.dimensionality() {
         return Err(Fault::new(Cause::Length, Layer::Grid));
@@ -31,7 +31,7 @@ fn answer_list<G: ChunkGrid>(
     numbers: &[u64],
     place: &mut [u64],
 ) -> Result<Option<()>, Fault>
-    ensures { Gives place.old place.new result (list_answer (answer question) (axes grid.now) numbers.now (length place.old)) }
+    ensures { Gives place.old place.new result (list_answer (answer question) (G.axes grid.now) numbers.now (length place.old)) }
 {
     let number = grid.dimensionality();
     if numbers.len() != number || place.len() != number {
@@ -42,14 +42,14 @@ fn answer_list<G: ChunkGrid>(
 
 // The size of each axis.
 pub fn array_shape<G: ChunkGrid>(grid: &G, place: &mut [u64]) -> Result<Option<()>, Fault>
-    ensures { Gives place.old place.new result (array_shape_answer (axes grid.now) (length place.old)) }
+    ensures { Gives place.old place.new result (array_shape_answer (G.axes grid.now) (length place.old)) }
 {
     answer_shape(grid, Question::Size, place)
 }
 
 // The number of chunks on each axis.
 pub fn grid_shape<G: ChunkGrid>(grid: &G, place: &mut [u64]) -> Result<Option<()>, Fault>
-    ensures { Gives place.old place.new result (grid_shape_answer (axes grid.now) (length place.old)) }
+    ensures { Gives place.old place.new result (grid_shape_answer (G.axes grid.now) (length place.old)) }
 {
     answer_shape(grid, Question::Chunks, place)
 }
@@ -60,8 +60,8 @@ pub fn chunk_shape<G: ChunkGrid>(
     chunk: &[u64],
     place: &mut [u64],
 ) -> Result<Option<()>, Fault>
-    ensures answer { Gives place.old place.new result (chunk_shape_answer (axes grid.now) chunk.now (length place.old)) }
-    ensures by_axis { AxisByAxis (λ a. edge_answer (axes grid.now) a (slice_index chunk.now a)) (length (axes grid.now)) result place.new }
+    ensures answer { Gives place.old place.new result (chunk_shape_answer (G.axes grid.now) chunk.now (length place.old)) }
+    ensures by_axis { AxisByAxis (λ a. edge_answer (G.axes grid.now) a (slice_index chunk.now a)) (length (G.axes grid.now)) result place.new }
 {
     answer_list(grid, Question::Edges, chunk, place)
 }
@@ -72,8 +72,8 @@ pub fn chunk_origin<G: ChunkGrid>(
     chunk: &[u64],
     place: &mut [u64],
 ) -> Result<Option<()>, Fault>
-    ensures answer { Gives place.old place.new result (chunk_origin_answer (axes grid.now) chunk.now (length place.old)) }
-    ensures by_axis { AxisByAxis (λ a. origin_answer (axes grid.now) a (slice_index chunk.now a)) (length (axes grid.now)) result place.new }
+    ensures answer { Gives place.old place.new result (chunk_origin_answer (G.axes grid.now) chunk.now (length place.old)) }
+    ensures by_axis { AxisByAxis (λ a. origin_answer (G.axes grid.now) a (slice_index chunk.now a)) (length (G.axes grid.now)) result place.new }
 {
     answer_list(grid, Question::Origin, chunk, place)
 }
@@ -84,8 +84,8 @@ pub fn chunk_indices<G: ChunkGrid>(
     indices: &[u64],
     place: &mut [u64],
 ) -> Result<Option<()>, Fault>
-    ensures answer { Gives place.old place.new result (chunk_indices_answer (axes grid.now) indices.now (length place.old)) }
-    ensures found { Tells FoundAt (axes grid.now) indices.now result place.new }
+    ensures answer { Gives place.old place.new result (chunk_indices_answer (G.axes grid.now) indices.now (length place.old)) }
+    ensures found { Tells FoundAt (G.axes grid.now) indices.now result place.new }
 {
     answer_list(grid, Question::Chunk, indices, place)
 }
@@ -96,8 +96,8 @@ pub fn chunk_element_indices<G: ChunkGrid>(
     indices: &[u64],
     place: &mut [u64],
 ) -> Result<Option<()>, Fault>
-    ensures answer { Gives place.old place.new result (chunk_element_indices_answer (axes grid.now) indices.now (length place.old)) }
-    ensures placed { Tells PlacedAt (axes grid.now) indices.now result place.new }
+    ensures answer { Gives place.old place.new result (chunk_element_indices_answer (G.axes grid.now) indices.now (length place.old)) }
+    ensures placed { Tells PlacedAt (G.axes grid.now) indices.now result place.new }
 {
     answer_list(grid, Question::Element, indices, place)
 }
@@ -109,7 +109,7 @@ pub fn subset<G: ChunkGrid>(
     origins: &mut [u64],
     ends: &mut [u64],
 ) -> Result<Option<()>, Fault>
-    ensures { Gives (origins.old, ends.old) (origins.new, ends.new) result (subset_answer (axes grid.now) chunk.now (length origins.old) (length ends.old)) }
+    ensures { Gives (origins.old, ends.old) (origins.new, ends.new) result (subset_answer (G.axes grid.now) chunk.now (length origins.old) (length ends.old)) }
 {
     let number = grid.dimensionality();
     if chunk.len() != number || origins.len() != number || ends.len() != number {
@@ -125,7 +125,7 @@ pub fn subset<G: ChunkGrid>(
 
 // Whether the lengths match and each index is in a chunk, and below the size unless that is 0.
 pub fn array_indices_inbounds<G: ChunkGrid>(grid: &G, indices: &[u64]) -> bool
-    ensures { result ≡ inbounds (axes grid.now) indices.now }
+    ensures { result ≡ inbounds (G.axes grid.now) indices.now }
 {
     if indices.len() != grid.dimensionality() {
         return false;
@@ -146,7 +146,7 @@ pub fn chunks_in_array_subset<G: ChunkGrid>(
     firsts: &mut [u64],
     counts: &mut [u64],
 ) -> Result<Option<()>, Fault>
-    ensures { Gives (firsts.old, counts.old) (firsts.new, counts.new) result (chunks_in_answer (axes grid.now) start.now shape.now (length firsts.old) (length counts.old)) }
+    ensures { Gives (firsts.old, counts.old) (firsts.new, counts.new) result (chunks_in_answer (G.axes grid.now) start.now shape.now (length firsts.old) (length counts.old)) }
 {
     let number = grid.dimensionality();
     if start.len() != number
