@@ -19,4 +19,4 @@ loop-row-preserved c =
 
 pub returns : goal.returns
 returns c =
-    c.sum-refused.ensures ∙ sym (cause_is c.args.entries.now c.loop-row.row-index c.loop-row.end c.loop-row.zero c.loop-row.invariant (omega arith) c.args.rule c.args.size)
+    c.sum_refused.ensures ∙ sym (cause_is c.args.entries.now c.loop-row.row-index c.loop-row.end c.loop-row.zero c.loop-row.invariant (omega arith) c.args.rule c.args.size)

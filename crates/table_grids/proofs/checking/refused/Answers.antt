@@ -10,7 +10,7 @@ returns-else-number-table c =
     let first = c.in-Varying.first in
     let number = c.in-Varying.number in
     let e : first + number - first ≡ number = omega arith in
-    c.entries-refused.ensures
+    c.entries_refused.ensures
     ∙ ap (λ m. entries_cause c.args.rule c.args.size (span t first m)) e
     ∙ sym (ap (axis_cause c.args.rule t c.args.size) c.in-Varying.is
     ∙ cond-true (leb (first + number) (length t)) _ _ (le-leb (first + number) (length t) (omega arith)))

@@ -6,4 +6,4 @@ pub returns-in-Varying : goal.returns-in-Varying
 returns-in-Varying c =
     let t = c.args.table.now in
     let e : c.in-Varying.first + c.in-Varying.number - c.in-Varying.first ≡ c.in-Varying.number = omega arith in
-    c.longest-size.ensures ∙ ap (λ m. longest_of (span t c.in-Varying.first m)) e ∙ sym (ap (longest_in t) c.in-Varying.is)
+    c.longest_size.ensures ∙ ap (λ m. longest_of (span t c.in-Varying.first m)) e ∙ sym (ap (longest_in t) c.in-Varying.is)

@@ -6,5 +6,5 @@ use Rattle.own_grid.proofs.grid.DoublingChunkGrid.fits.Goals as goal
 
 pub returns : goal.returns
 returns c =
-    c.fits-by.ensures (doubling_axes c.args.self.now)
-    (refl, subst (LongestIn (doubling c.args.self.now.number)) (sym (c.pow.ensures ∙ ap (λ (k : ℕ). 2 ^ k) c.saturating-sub.ensures)) (doubling_longest _), tt)
+    c.fits_by.ensures (doubling_axes c.args.self.now)
+    (refl, subst (LongestIn (doubling c.args.self.now.number)) (sym (c.pow.ensures ∙ ap (λ (k : ℕ). 2 ^ k) c.saturating_sub.ensures)) (doubling_longest _), tt)

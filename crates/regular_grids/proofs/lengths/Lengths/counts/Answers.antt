@@ -6,7 +6,7 @@ use Rattle.regular_grids.proofs.lengths.Lengths.counts.Goals as goal
 
 pub loop-a-preserved : goal.loop-a-preserved
 loop-a-preserved c = (
-  stored_more (λ k x. x ≡ rounded_up (get_or c.args.self.now.sizes k 0) (get_or c.args.self.now.edges k 0)) _ _ _ (omega arith) c.loop-a.invariant.0 c.div-ceil.ensures,
+  stored_more (λ k x. x ≡ rounded_up (get_or c.args.self.now.sizes k 0) (get_or c.args.self.now.edges k 0)) _ _ _ (omega arith) c.loop-a.invariant.0 c.div_ceil.ensures,
   length-set _ _ _ ∙ c.loop-a.invariant.1,
 )
 

@@ -5,11 +5,11 @@ use Rattle.regular_grids.proofs.lengths.Lengths.new.Given as goal
 
 abbrev pub invariant-loop-a : goal.invariant-loop-a
 invariant-loop-a l =
-    ((k : ℕ) → k < l.a → get_or l.own-sizes k 0 ≡ get_or l.sizes k 0)
-    × ((k : ℕ) → k < l.a → get_or l.own-edges k 0 ≡ get_or l.edges k 0)
-    × Positive l.a l.own-edges
-    × Fit l.a l.own-sizes
-    × Fit l.a l.own-edges
+    ((k : ℕ) → k < l.a → get_or l.own_sizes k 0 ≡ get_or l.sizes k 0)
+    × ((k : ℕ) → k < l.a → get_or l.own_edges k 0 ≡ get_or l.edges k 0)
+    × Positive l.a l.own_edges
+    × Fit l.a l.own_sizes
+    × Fit l.a l.own_edges
     × ((k : ℕ) → k < l.a → zero_edge l.edges k ≡ None)
-    × (length l.own-sizes ≡ 8)
-    × (length l.own-edges ≡ 8)
+    × (length l.own_sizes ≡ 8)
+    × (length l.own_edges ≡ 8)

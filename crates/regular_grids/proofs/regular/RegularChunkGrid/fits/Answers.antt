@@ -9,5 +9,5 @@ pub returns : goal.returns
 returns c =
     let g = c.args.self.now.lengths in
     let few = g.few in
-    c.fits-by.ensures _ (longest_by (length_axis fixed g) c.counts-counts.result g.edges g.number (omega arith) (reaches_from g.edges g.number g.positive)
+    c.fits_by.ensures _ (longest_by (length_axis fixed g) c.counts-counts.result g.edges g.number (omega arith) (reaches_from g.edges g.number g.positive)
     (λ a l. (c.counts-counts.ensures a l, ((λ k _. le_refl _), (λ h. (0, h, refl))))))

@@ -18,7 +18,7 @@ pub returns : goal.returns
 returns c =
     let g = c.args.self.now.lengths in
     let few = g.few in
-    c.fits-by.ensures _ (longest_by (length_axis bounded g) c.counts-counts.result c.loop-a.longest g.number (omega arith) (omega arith)
+    c.fits_by.ensures _ (longest_by (length_axis bounded g) c.counts-counts.result c.loop-a.longest g.number (omega arith) (omega arith)
     (λ a l. (
       c.counts-counts.ensures a l,
       subst (LongestIn (length_axis bounded g a)) (sym (c.loop-a.invariant.0 a (omega arith))) (bounded_longest _ _ (g.positive a l)),

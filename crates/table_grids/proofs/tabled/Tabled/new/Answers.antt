@@ -5,5 +5,5 @@ use Rattle.table_grids.proofs.tabled.Tabled.new.Goals as goal
 
 pub returns : goal.returns
 returns c =
-    subst (Makes _ _) (sym (passes c.args.rule c.args.array-shape.now c.args.axes.now c.args.table.now (omega arith) (omega arith) (omega arith)))
-    c.axis-by-axis.ensures
+    subst (Makes _ _) (sym (passes c.args.rule c.args.array_shape.now c.args.axes.now c.args.table.now (omega arith) (omega arith) (omega arith)))
+    c.axis_by_axis.ensures

@@ -16,4 +16,4 @@ returns-in-Fixed c =
 
 pub returns-in-Varying : goal.returns-in-Varying
 returns-in-Varying c =
-    c.chunk-at.ensures ∙ asked_at c.args.self.now c.args.axis c.if-axis-self.false (λ x. chunk_of x c.args.index) _ c.span.ensures
+    c.chunk_at.ensures ∙ asked_at c.args.self.now c.args.axis c.if-axis-self.false (λ x. chunk_of x c.args.index) _ c.span.ensures

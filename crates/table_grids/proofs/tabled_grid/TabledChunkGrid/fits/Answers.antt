@@ -9,5 +9,5 @@ use Rattle.table_grids.proofs.tabled_grid.TabledChunkGrid.fits.Goals as goal
 pub returns : goal.returns
 returns c =
     let g = c.args.self.now in
-    c.fits-by.ensures _ (longest_by (table_axis g) g.grid_shape g.longest g.number (omega arith) (omega arith)
+    c.fits_by.ensures _ (longest_by (table_axis g) g.grid_shape g.longest g.number (omega arith) (omega arith)
     (λ a l. (g.counts_are a l, subst (LongestIn (table_axis g a)) (sym (g.longest_are a l)) (longest_is g.table.now _ (get_or g.axes a (Fixed 0))))))
