@@ -1,7 +1,7 @@
-use Rattle.std.proofs.Common.{◌≡◌, ℕ, zero, suc, ◌^◌, ◌<◌, true, ◌&&◌, ltb, List, [], ◌∷◌, ◌++◌, map, length, get_or, Some, codes, decimal, Option, sym, refl, ap, ◌∙◌, arith}
+use Rattle.std.proofs.Common.{◌≡◌, ℕ, zero, suc, ◌^◌, ◌<◌, ◌&&◌, ltb, List, [], ◌∷◌, ◌++◌, map, length, get_or, Some, codes, decimal, Option, sym, refl, ap, ◌∙◌, arith}
 use Rattle.std.specs.Option.{option_map}
 use Rattle.std.specs.Str.Iter.{LacksByte}
-use Rattle.std.specs.List.{join_with_byte, AllByRecursion as All}
+use Rattle.std.specs.List.{join_with_byte, AllByRecursion}
 use Rattle.std.specs.Str.Parse.{digits_value}
 use Rattle.std.specs.Int.{IsInRange}
 use Rattle.std.specs.Str.{all_ascii_digits}
@@ -71,11 +71,11 @@ run_begins (Repeated e n) h = begins_append (decimal e) (codes "x" ++ decimal n)
 -- a list of items, each read back
 module _ {A : Type 0} (text : A → List ℕ) (read : List ℕ → Option A) (Fit : A → Type 0) (back : (x : A) → Fit x → read (text x) ≡ Some x)
     (lacks : (x : A) → Fit x → LacksByte 44 (text x)) (begins : (x : A) → Fit x → Begins (text x)) where
-  all_lack_mark : (xs : List A) → All Fit xs → AllLack 44 (map text xs)
+  all_lack_mark : (xs : List A) → AllByRecursion Fit xs → AllLack 44 (map text xs)
   all_lack_mark [] h = tt
   all_lack_mark (x ∷ xs) h = (lacks x h.0, all_lack_mark xs h.1)
 
-  each_back : (xs : List A) → All Fit xs → each_in read (map text xs) ≡ Some xs
+  each_back : (xs : List A) → AllByRecursion Fit xs → each_in read (map text xs) ≡ Some xs
   unfolding each_in
   each_back [] h = refl
   each_back (x ∷ xs) h = ap (λ o. onto o (each_in read (map text xs))) (back x h.0) ∙ ap (onto (Some x)) (each_back xs h.1)
@@ -85,7 +85,7 @@ module _ {A : Type 0} (text : A → List ℕ) (read : List ℕ → Option A) (Fi
       (begins_append (text x) (tail_text 44 (map text xs)) (begins x h)).1
       (ap (λ t. get_or t 0 0) (sym (rejoined_tail 44 (text x) (map text xs)) ∙ e))
 
-  list_back : (xs : List A) → All Fit xs → list_in read (list_text 44 (map text xs)) ≡ Some xs
+  list_back : (xs : List A) → AllByRecursion Fit xs → list_in read (list_text 44 (map text xs)) ≡ Some xs
   unfolding list_in list_text
   list_back [] h = refl
   list_back (x ∷ xs) h =

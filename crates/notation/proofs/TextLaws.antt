@@ -1,7 +1,7 @@
-use Rattle.std.proofs.Common.{◌≡◌, ℕ, suc, ◌+◌, ◌<◌, true, false, cond, eqb, List, [], ◌∷◌, ◌++◌, map, length, get_or, IfSome, IfOk, Some, None, Ok, Err, Option, Result, sym, refl, ap, ◌∙◌, subst, arith, Bor}
+use Rattle.std.proofs.Common.{◌≡◌, ℕ, suc, ◌<◌, false, eqb, List, [], ◌∷◌, ◌++◌, length, get_or, IfSome, IfOk, Some, None, Ok, Err, Option, Result, sym, refl, ap, ◌∙◌, subst, arith, Bor}
 use Rattle.std.specs.Option.{option_map}
 use Rattle.std.specs.Str.Iter.{LacksByte}
-use Rattle.std.specs.List.{join_with_byte, AllByRecursion as All}
+use Rattle.std.specs.List.{join_with_byte, AllByRecursion}
 use Rattle.std.specs.Iterator.Runs.{Run, AllItems}
 use Rattle.std.proofs.lemmas.Bool.{cond-true, cond-false, eq-eqb, ne_eqb}
 use Rattle.notation.specs.Texts.{before, after, onto_first, parts_at, texts}
@@ -46,7 +46,7 @@ module _ (m : ℕ) where
   parts_mark (c ∷ cs) ys l = cond-false (eqb c m) _ _ (lacks_head m c cs l) ∙ ap (onto_first c) (parts_mark cs ys (lacks_tail m c cs l))
 
   abbrev pub AllLack : List (List ℕ) → Type 0
-  AllLack = All (LacksByte m)
+  AllLack = AllByRecursion (LacksByte m)
 
   -- parts that lack the mark, put together with it, are cut apart again
   pub parts_rejoined : (p : List ℕ) (ps : List (List ℕ)) → AllLack (p ∷ ps) → parts_at m (join_with_byte m (p ∷ ps)) ≡ p ∷ ps

@@ -5,4 +5,4 @@ use Rattle.notation.proofs.ListLaws.{with_done}
 use Rattle.notation.proofs.item.each.Given as goal
 
 abbrev pub invariant-loop-word : goal.invariant-loop-word
-invariant-loop-word g l = with_done (vec_items l.items) (each_in g.T-as-Item.reads (texts (drop l.word-index l.words))) ≡ each_in g.T-as-Item.reads (texts l.words)
+invariant-loop-word g l = with_done (vec_items l.items) (each_in g.T.Item.reads (texts (drop l.word-index l.words))) ≡ each_in g.T.Item.reads (texts l.words)

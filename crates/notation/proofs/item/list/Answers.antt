@@ -1,5 +1,6 @@
-use Rattle.std.proofs.Common.{false, Some, refl, ap, ◌∙◌, rules}
+use Rattle.std.proofs.Common.{Some, codes, sym, ap, ◌∙◌, rules}
 use Rattle.std.proofs.lemmas.Result.{IfOk-weaker}
+use Rattle.std.proofs.lemmas.Slice.Eq.{bytes_eq-Decides}
 use Rattle.std.proofs.lemmas.Bool.{both_ways}
 use Rattle.notation.specs.Texts.{texts}
 use Rattle.notation.specs.Lists.{each_in}
@@ -9,7 +10,7 @@ use Rattle.notation.proofs.item.list.Goals as goal
 
 pub returns-then-eq : goal.returns-then-eq
 returns-then-eq g c = record {
-  list = ap Some c.new.ensures.items ∙ list_dash g.T-as-Item.reads c.args.text.now (c.if-eq.ensures.0 refl);
+  list = ap Some c.new.ensures.items ∙ list_dash g.T.Item.reads c.args.text.now ((bytes_eq-Decides c.args.text.now (codes "-")).0 (sym c.eq.ensures ∙ c.if-eq.true));
   back = written_is_read;
 }
 
@@ -21,8 +22,8 @@ returns g c = record {
   list =
       IfOk-weaker c.each.result _ _
       (λ o e.
-      e ∙ ap (λ xs. each_in g.T-as-Item.reads (texts xs)) c.as_slice.ensures.value ∙ ap (each_in g.T-as-Item.reads) c.in_ok-words.ensures
-      ∙ list_items g.T-as-Item.reads c.args.text.now (λ d. both_ways false refl (c.if-eq.ensures.1 d)))
+      e ∙ ap (λ xs. each_in g.T.Item.reads (texts xs)) c.as_slice.ensures.value ∙ ap (each_in g.T.Item.reads) c.in_ok-words.ensures
+      ∙ list_items g.T.Item.reads c.args.text.now (λ d. both_ways c.eq.result c.if-eq.false (c.eq.ensures ∙ (bytes_eq-Decides c.args.text.now (codes "-")).1 d)))
       c.each.ensures;
   back = written_is_read;
 }
