@@ -11,8 +11,8 @@ returns-then-eq c = ap Some c.none.ensures ∙ no_axes c.args.text.now (c.if-eq.
 
 pub returns : goal.returns
 returns c =
-    IfOk-weaker c.each-axis.result _ _
+    IfOk-weaker c.each_axis.result _ _
     (λ o e.
-    e ∙ ap (λ ts. axes_laid ts nothing_laid) (ap texts c.as-slice.ensures.value ∙ c.in-ok-words.ensures)
+    e ∙ ap (λ ts. axes_laid ts nothing_laid) (ap texts c.as_slice.ensures.value ∙ c.in_ok-words.ensures)
     ∙ some_axes c.args.text.now (λ d. both_ways false refl (c.if-eq.ensures.1 d)))
-    c.each-axis.ensures
+    c.each_axis.ensures

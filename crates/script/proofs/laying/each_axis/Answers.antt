@@ -8,15 +8,15 @@ use Rattle.script.proofs.laying.each_axis.Goals as goal
 pub loop-word-init : goal.loop-word-init
 loop-word-init c = ap (axes_laid (texts c.args.words.now)) c.none-tables.ensures
 
-pub returns-in-default : goal.returns-in-default
-returns-in-default c =
+pub returns-in_default : goal.returns-in_default
+returns-in_default c =
     axis_unread c.args.words.now nothing_laid c.loop-word.word-index (laying c.loop-word.tables) c.loop-word.invariant c.loop-word-test.true
-    (not_added c.in-ok-add.field-0 (laying c.loop-word.tables) (laying c.add.new.self) (get_or c.args.words.now c.loop-word.word-index no_text).now c.in-default.is c.in-ok-add.ensures)
+    (not_added c.in_ok-add.field-0 (laying c.loop-word.tables) (laying c.add.new.self) (get_or c.args.words.now c.loop-word.word-index no_text).now c.in_default.is c.in_ok-add.ensures)
 
 pub loop-word-preserved : goal.loop-word-preserved
 loop-word-preserved c =
     axis_read c.args.words.now nothing_laid c.loop-word.word-index (laying c.loop-word.tables) c.loop-word.invariant c.loop-word-test.true (laying c.add.new.self)
-    (was_added c.in-ok-add.field-0 c.in-Some.field-0 (laying c.loop-word.tables) (laying c.add.new.self) (get_or c.args.words.now c.loop-word.word-index no_text).now c.in-Some.is c.in-ok-add.ensures)
+    (was_added c.in_ok-add.field-0 c.in-Some.field-0 (laying c.loop-word.tables) (laying c.add.new.self) (get_or c.args.words.now c.loop-word.word-index no_text).now c.in-Some.is c.in_ok-add.ensures)
 
 pub returns : goal.returns
 returns c = axes_read c.args.words.now nothing_laid c.loop-word.word-index (laying c.loop-word.tables) c.loop-word.invariant (omega arith)

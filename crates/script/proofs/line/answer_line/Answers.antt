@@ -11,13 +11,13 @@ pub returns : goal.returns
 returns c =
     let xs = current_axes c.args.current.now in
     let line = c.args.line.now in
-    let mark = starts_char 35 line c.starts-with.result c.starts-with.ensures.cases (omega arith) (omega arith) in
-    let words = ap texts c.as-slice.ensures.value ∙ c.in-ok-words.ensures in
+    let mark = starts_char 35 line c.starts_with.result c.starts_with.ensures.cases (omega arith) (omega arith) in
+    let words = ap texts c.as_slice.ensures.value ∙ c.in_ok-words.ensures in
     record {
-      answer = IfOk-weaker c.answer-words.result _ _
-          (λ o e. e ∙ ap (words_reply xs) words ∙ line_replies xs line (λ q. both_ways c.starts-with.result c.if-starts-with.false (mark.1 q)))
-          c.answer-words.ensures.answer;
-      after = becomes_same c.answer-words.result xs (current_axes c.answer-words.new.current) (words_axes xs (texts c.as-slice.result.now)) (line_axes xs line)
-          (ap (words_axes xs) words ∙ line_becomes xs line (λ q. both_ways c.starts-with.result c.if-starts-with.false (mark.1 q)))
-          c.answer-words.ensures.after;
+      answer = IfOk-weaker c.answer_words.result _ _
+          (λ o e. e ∙ ap (words_reply xs) words ∙ line_replies xs line (λ q. both_ways c.starts_with.result c.if-starts_with.false (mark.1 q)))
+          c.answer_words.ensures.answer;
+      after = becomes_same c.answer_words.result xs (current_axes c.answer_words.new.current) (words_axes xs (texts c.as_slice.result.now)) (line_axes xs line)
+          (ap (words_axes xs) words ∙ line_becomes xs line (λ q. both_ways c.starts_with.result c.if-starts_with.false (mark.1 q)))
+          c.answer_words.ensures.after;
     }

@@ -4,19 +4,19 @@ use Rattle.script.specs.Lines.{current_axes, named_reply, named_axes, words_repl
 use Rattle.script.proofs.LineLaws.{no_words, some_words}
 use Rattle.script.proofs.line.answer_words.Goals as goal
 
-pub returns-in-default : goal.returns-in-default
-returns-in-default c =
+pub returns-in_default : goal.returns-in_default
+returns-in_default c =
     let xs = current_axes c.args.current.now in
     let e = sym (no_words c.args.words.now (search rules)) in
     record { answer = ap (words_reply xs) e; after = ap (words_axes xs) e }
 
-pub returns-in-ok-answer-command : goal.returns-in-ok-answer-command
-returns-in-ok-answer-command c =
+pub returns-in_ok-answer-command : goal.returns-in_ok-answer-command
+returns-in_ok-answer-command c =
     let xs = current_axes c.args.current.now in
     let ws = c.args.words.now in
     let args = texts (take (length ws - 1) (drop 1 ws)) in
     let e = some_words ws (search rules) in
     record {
-      answer = ap Some (c.in-ok-answer-command.ensures.answer ∙ ap (λ o. named_reply xs o args) c.in-Some.ensures) ∙ ap (words_reply xs) e;
-      after = c.in-ok-answer-command.ensures.after ∙ ap (λ o. named_axes xs o args) c.in-Some.ensures ∙ ap (words_axes xs) e;
+      answer = ap Some (c.in_ok-answer-command.ensures.answer ∙ ap (λ o. named_reply xs o args) c.in-Some.ensures) ∙ ap (words_reply xs) e;
+      after = c.in_ok-answer-command.ensures.after ∙ ap (λ o. named_axes xs o args) c.in-Some.ensures ∙ ap (words_axes xs) e;
     }

@@ -3,8 +3,8 @@ use Rattle.script.specs.Names.{names}
 use Rattle.script.proofs.NameLaws.{not_there}
 use Rattle.script.proofs.name.command_named.Goals as goal
 
-pub returns-in-default : goal.returns-in-default
-returns-in-default c = not_there c.args.name.now names (
+pub returns-in_default : goal.returns-in_default
+returns-in_default c = not_there c.args.name.now names (
   search rules,
   (
     search rules,

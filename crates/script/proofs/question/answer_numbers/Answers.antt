@@ -10,9 +10,9 @@ pub returns : goal.returns
 returns g c =
     let xs = g.G.ChunkGrid.axes c.args.grid.now in
     c.answered.ensures
-    ∙ placed_reply found c.deref-mut.result.now c.about-into-answer.new.place (drop (length c.about-into-answer.new.place) c.in-ok-place.place.items)
-    c.in-ok-place.place.len (length xs) c.about-into-answer.result (about_answer c.args.about xs c.as-slice.result.now) c.deref-mut.ensures.len (omega arith)
-    (c.in-ok-place.ensures.len ∙ c.dimensionality.ensures) c.about-into-answer.ensures
-    ∙ ap (λ ns. answer_reply found (about_answer c.args.about xs ns (length xs))) c.as-slice.ensures.value
+    ∙ placed_reply found c.deref_mut.result.now c.about_into-answer.new.place (drop (length c.about_into-answer.new.place) c.in_ok-place.place.items)
+    c.in_ok-place.place.len (length xs) c.about_into-answer.result (about_answer c.args.about xs c.as_slice.result.now) c.deref_mut.ensures.len (omega arith)
+    (c.in_ok-place.ensures.len ∙ c.dimensionality.ensures) c.about_into-answer.ensures
+    ∙ ap (λ ns. answer_reply found (about_answer c.args.about xs ns (length xs))) c.as_slice.ensures.value
     ∙ read_numbers (λ ns. answer_reply found (about_answer c.args.about xs ns (length xs))) (texts c.args.arguments.now) c.in-Some.text.now (vec_items c.in-Some-2.numbers)
-    c.in-Some.ensures (sym (ap (option_map vec_items) c.in-Some-2.is) ∙ c.in-ok-numbers.ensures.list)
+    c.in-Some.ensures (sym (ap (option_map vec_items) c.in-Some-2.is) ∙ c.in_ok-numbers.ensures.list)
