@@ -1,4 +1,4 @@
-use Rattle.std.specs.Prelude.{ℕ, Bool, true, false, List, [], ◌∷◌, ◌++◌, map, length, vec_items, codes, decimal}
+use Rattle.std.specs.Prelude.{ℕ, Bool, true, false, List, ◌++◌, map, length, vec_items, codes, decimal}
 use Rattle.edges.specs.Refusals.{fault_text}
 use Rattle.edges.specs.Texts.{run_text, entry_text}
 use Rattle.edges.specs.declared.fault.Fault.{Fault}

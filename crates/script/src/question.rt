@@ -28,7 +28,7 @@ fn answered(answer: Result<Option<()>, Fault>, found: Answer) -> Answer
 
 // A shape of the grid, into a place.
 fn shape_into<G: ChunkGrid>(grid: &G, shape: Shape, place: &mut [u64]) -> Result<Option<()>, Fault>
-    ensures { Gives place.old place.new result (shape_answer shape (axes grid.now) (length place.old)) }
+    ensures { Gives place.old place.new result (shape_answer shape (G.axes grid.now) (length place.old)) }
 {
     match shape {
         Shape::Array => array_shape(grid, place),
@@ -43,7 +43,7 @@ fn about_into<G: ChunkGrid>(
     numbers: &[u64],
     place: &mut [u64],
 ) -> Result<Option<()>, Fault>
-    ensures { Gives place.old place.new result (about_answer about (axes grid.now) numbers.now (length place.old)) }
+    ensures { Gives place.old place.new result (about_answer about (G.axes grid.now) numbers.now (length place.old)) }
 {
     match about {
         About::ChunkShape => chunk_shape(grid, numbers, place),
@@ -55,7 +55,7 @@ fn about_into<G: ChunkGrid>(
 
 // `dimensionality`
 fn answer_dimensionality<G: ChunkGrid>(grid: &G, arguments: &[&str]) -> Answer
-    ensures { meant result ≡ dimensionality_reply (axes grid.now) (texts arguments.now) }
+    ensures { meant result ≡ dimensionality_reply (G.axes grid.now) (texts arguments.now) }
 {
     match none(arguments) {
         Some(()) => Answer::Number(grid.dimensionality() as u64),
@@ -70,7 +70,7 @@ fn answer_shape<G: ChunkGrid>(
     shape: Shape,
     arguments: &[&str],
 ) -> Result<Answer, AllocError>
-    ensures { IfOk result (λ a. meant a ≡ shape_reply shape (axes grid.now) (texts arguments.now)) }
+    ensures { IfOk result (λ a. meant a ≡ shape_reply shape (G.axes grid.now) (texts arguments.now)) }
 {
     let Some(()) = none(arguments) else {
         return Ok(Answer::NotUnderstood);
@@ -87,7 +87,7 @@ fn answer_numbers<G: ChunkGrid>(
     about: About,
     arguments: &[&str],
 ) -> Result<Answer, AllocError>
-    ensures { IfOk result (λ a. meant a ≡ numbers_reply about (axes grid.now) (texts arguments.now)) }
+    ensures { IfOk result (λ a. meant a ≡ numbers_reply about (G.axes grid.now) (texts arguments.now)) }
 {
     let Some(text) = one(arguments) else {
         return Ok(Answer::NotUnderstood);
@@ -102,7 +102,7 @@ fn answer_numbers<G: ChunkGrid>(
 
 // `fits limit=N width=N`
 fn answer_fits<G: ChunkGrid>(grid: &G, arguments: &[&str]) -> Answer
-    ensures { meant result ≡ fits_reply (axes grid.now) (texts arguments.now) }
+    ensures { meant result ≡ fits_reply (G.axes grid.now) (texts arguments.now) }
 {
     let Some((limit, width)) = two(arguments) else {
         return Answer::NotUnderstood;
@@ -122,7 +122,7 @@ fn answer_inbounds<G: ChunkGrid>(
     grid: &G,
     arguments: &[&str],
 ) -> Result<Answer, AllocError>
-    ensures { IfOk result (λ a. meant a ≡ inbounds_reply (axes grid.now) (texts arguments.now)) }
+    ensures { IfOk result (λ a. meant a ≡ inbounds_reply (G.axes grid.now) (texts arguments.now)) }
 {
     let Some(indices) = one(arguments) else {
         return Ok(Answer::NotUnderstood);
@@ -139,7 +139,7 @@ fn answer_subset<G: ChunkGrid>(
     grid: &G,
     arguments: &[&str],
 ) -> Result<Answer, AllocError>
-    ensures { IfOk result (λ a. meant a ≡ subset_reply (axes grid.now) (texts arguments.now)) }
+    ensures { IfOk result (λ a. meant a ≡ subset_reply (G.axes grid.now) (texts arguments.now)) }
 {
     let Some(text) = one(arguments) else {
         return Ok(Answer::NotUnderstood);
@@ -159,7 +159,7 @@ fn answer_chunks_in<G: ChunkGrid>(
     grid: &G,
     arguments: &[&str],
 ) -> Result<Answer, AllocError>
-    ensures { IfOk result (λ a. meant a ≡ chunks_in_reply (axes grid.now) (texts arguments.now)) }
+    ensures { IfOk result (λ a. meant a ≡ chunks_in_reply (G.axes grid.now) (texts arguments.now)) }
 {
     let Some((start, shape)) = two(arguments) else {
         return Ok(Answer::NotUnderstood);
@@ -189,7 +189,7 @@ pub(crate) fn answer_question<G: ChunkGrid>(
     question: Question,
     arguments: &[&str],
 ) -> Result<Answer, AllocError>
-    ensures { IfOk result (λ a. meant a ≡ question_reply (axes grid.now) question (texts arguments.now)) }
+    ensures { IfOk result (λ a. meant a ≡ question_reply (G.axes grid.now) question (texts arguments.now)) }
 {
     match question {
         Question::Dimensionality => Ok(answer_dimensionality(grid, arguments)),

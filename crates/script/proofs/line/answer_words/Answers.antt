@@ -10,13 +10,13 @@ returns-in_default c =
     let e = sym (no_words c.args.words.now (search rules)) in
     record { answer = ap (words_reply xs) e; after = ap (words_axes xs) e }
 
-pub returns-in_ok-answer-command : goal.returns-in_ok-answer-command
-returns-in_ok-answer-command c =
+pub returns-in_ok-answer_command-in-Some : goal.returns-in_ok-answer_command-in-Some
+returns-in_ok-answer_command-in-Some c =
     let xs = current_axes c.args.current.now in
     let ws = c.args.words.now in
     let args = texts (take (length ws - 1) (drop 1 ws)) in
     let e = some_words ws (search rules) in
     record {
-      answer = ap Some (c.in_ok-answer-command.ensures.answer ∙ ap (λ o. named_reply xs o args) c.in-Some.ensures) ∙ ap (words_reply xs) e;
-      after = c.in_ok-answer-command.ensures.after ∙ ap (λ o. named_axes xs o args) c.in-Some.ensures ∙ ap (words_axes xs) e;
+      answer = ap Some (c.in_ok-answer_command-in-Some.ensures.answer ∙ ap (λ o. named_reply xs o args) c.in-Some.ensures) ∙ ap (words_reply xs) e;
+      after = c.in_ok-answer_command-in-Some.ensures.after ∙ ap (λ o. named_axes xs o args) c.in-Some.ensures ∙ ap (words_axes xs) e;
     }

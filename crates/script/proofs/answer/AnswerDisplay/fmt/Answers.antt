@@ -13,7 +13,7 @@ returns-in-Entries-clause-writes g c =
     (counted_text entry_text 32 refl c.len-number.result (codes " entries ") c.as_slice-items.result.now (vec_items c.in-Entries.entries)
     (c.len-number.ensures ∙ c.in-Entries.entries.ok.0) c.as_slice-items.ensures.value
     ∙ sym (ap (λ a. Some (reply_text (meant a))) c.in-Entries.is))
-    c.write.ensures.shows
+    c.write.ensures.writes
 
 pub returns-in-Runs-clause-writes : goal.returns-in-Runs-clause-writes
 unfolding encode
@@ -22,7 +22,7 @@ returns-in-Runs-clause-writes g c =
     (counted_text run_text 44 refl c.len-number-in-Runs.result (codes " runs ") c.as_slice-items-in-Runs.result.now (vec_items c.in-Runs.runs)
     (c.len-number-in-Runs.ensures ∙ c.in-Runs.runs.ok.0) c.as_slice-items-in-Runs.ensures.value
     ∙ sym (ap (λ a. Some (reply_text (meant a))) c.in-Runs.is))
-    c.write-in-Runs.ensures.shows
+    c.write-in-Runs.ensures.writes
 
 pub returns-in-Found-clause-writes : goal.returns-in-Found-clause-writes
 unfolding encode
@@ -30,7 +30,7 @@ returns-in-Found-clause-writes g c =
     displays_on_ok_of_eq g.W.Write.write_str_gives c.args.f.now c.write-in-Found.new.self c.write-in-Found.result _ (Some (reply_text (meant c.args.self.now)))
     (named_text decimal 44 refl (codes "some ") c.as_slice-items-in-Found.result.now (vec_items c.in-Found.values) c.as_slice-items-in-Found.ensures.value
     ∙ sym (ap (λ a. Some (reply_text (meant a))) c.in-Found.is))
-    c.write-in-Found.ensures.shows
+    c.write-in-Found.ensures.writes
 
 pub returns-in-Bounds-clause-writes : goal.returns-in-Bounds-clause-writes
 unfolding encode
@@ -39,7 +39,7 @@ returns-in-Bounds-clause-writes g c =
     (paired_text decimal 44 refl (codes "some ") (codes " to ") c.as_slice-items-in-Bounds.result.now c.as_slice-items-in-Bounds-2.result.now
     (vec_items c.in-Bounds.origins) (vec_items c.in-Bounds.ends) c.as_slice-items-in-Bounds.ensures.value c.as_slice-items-in-Bounds-2.ensures.value
     ∙ sym (ap (λ a. Some (reply_text (meant a))) c.in-Bounds.is))
-    c.write-in-Bounds.ensures.shows
+    c.write-in-Bounds.ensures.writes
 
 pub returns-in-Chunks-clause-writes : goal.returns-in-Chunks-clause-writes
 unfolding encode
@@ -48,4 +48,4 @@ returns-in-Chunks-clause-writes g c =
     (paired_text decimal 44 refl (codes "some ") (codes " shape ") c.as_slice-items-in-Chunks.result.now c.as_slice-items-in-Chunks-2.result.now
     (vec_items c.in-Chunks.firsts) (vec_items c.in-Chunks.counts) c.as_slice-items-in-Chunks.ensures.value c.as_slice-items-in-Chunks-2.ensures.value
     ∙ sym (ap (λ a. Some (reply_text (meant a))) c.in-Chunks.is))
-    c.write-in-Chunks.ensures.shows
+    c.write-in-Chunks.ensures.writes
