@@ -1,7 +1,7 @@
-use Rattle.std.specs.Prelude.{◌≡◌, ℕ, ◌≤◌, Bool, true, false, cond, ◌&&◌, List, nat_lt, slice_index_or, refl}
+use Rattle.std.specs.Prelude.{◌≡◌, Bool, true, false, cond, ◌&&◌, List, nat_lt, slice_index_or, refl}
 use Rattle.std.proofs.Common.{arith, lit≤}
 use Rattle.std.proofs.lemmas.Bool.{le-ltb}
-use Rattle.stores.specs.Counts.{count, count_le}
+use Rattle.stores.specs.Counts.{count_le}
 use Rattle.stores.specs.Held.{Held, Sound, empty}
 use Rattle.own_store.specs.declared.moisture.Moisture.{Moisture}
 

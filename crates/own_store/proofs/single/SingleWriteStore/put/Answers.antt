@@ -1,6 +1,5 @@
-use Rattle.std.proofs.Common.{◌≡◌, true, cond, length, get_or, set, replicate, sym, refl, ap, ◌∙◌, rules}
+use Rattle.std.proofs.Common.{◌≡◌, cond, length, get_or, set, replicate, sym, refl, ap, ◌∙◌, rules}
 use lib.ListN.{get_or-replicate}
-use Rattle.stores.specs.Held.{after_put}
 use Rattle.own_store.specs.Single.{single_held, unmeasured}
 use Rattle.own_store.proofs.SingleLaws.{put_accepted, single_put}
 use Rattle.own_store.proofs.single.SingleWriteStore.put.Goals as goal
