@@ -3,7 +3,7 @@ use lib.ListN.{length-replicate, get_or-replicate}
 use Rattle.std.proofs.lemmas.List.{get_or_append_left}
 use Rattle.std.proofs.lemmas.Bool.{cases_Bool, cases_lt, cases_eq, lt-ltb, le-ltb, ne_eqb, eq-eqb}
 use Rattle.stores.specs.Counts.{count, count_same, count_missing}
-use Rattle.stores.specs.Held.{Held, free, get_answer, put_answer, after_put, erase_answer, after_erase}
+use Rattle.stores.specs.Held.{free, get_answer, put_answer, after_put, erase_answer, after_erase}
 use Rattle.stores.proofs.HeldLaws.{same_held}
 use Rattle.memory_stores.specs.Extents.{capped, flat_limit, flat_fit, flat_marks}
 use Rattle.memory_stores.specs.Laid.{laid, cleared}

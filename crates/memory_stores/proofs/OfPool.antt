@@ -1,5 +1,5 @@
-use Rattle.std.proofs.Common.{◌≡◌, ℕ, zero, suc, ◌+◌, ◌-◌, ◌*◌, ◌<◌, ◌≤◌, Bool, true, false, cond, ◌&&◌, eqb, ltb, ◌⊎◌, List, length, get_or, set, is_some, Some, None, Ok, Err, unwrap_or, sym, refl, ap, ◌∙◌, inl, inr, mul-le-mul_right, add-mul, arith, length-set}
-use Rattle.std.proofs.lemmas.Bool.{cases_Bool, cases_eq, lt-ltb, ne_eqb, eq-eqb, both_ways}
+use Rattle.std.proofs.Common.{◌≡◌, ℕ, ◌+◌, ◌-◌, ◌*◌, ◌<◌, ◌≤◌, Bool, true, false, cond, ◌&&◌, ltb, List, length, get_or, set, is_some, Some, None, Ok, Err, unwrap_or, sym, refl, ap, ◌∙◌, inl, inr, arith, length-set}
+use Rattle.std.proofs.lemmas.Bool.{cases_eq, lt-ltb, ne_eqb, eq-eqb, both_ways}
 use Rattle.stores.specs.Counts.{count, count_all, count_missing}
 use Rattle.stores.specs.Held.{Held, free, put_answer, after_put, erase_answer, after_erase, no_slot}
 use Rattle.stores.proofs.HeldLaws.{same_held}
@@ -9,7 +9,7 @@ use Rattle.memory_stores.specs.Extents.{capped, pool_limit, pool_slots, pool_fit
 use Rattle.memory_stores.specs.Laid.{laid, cleared}
 use Rattle.memory_stores.specs.Meanings.{pool_held, new_pool}
 use Rattle.memory_stores.specs.Named.{named_count, names_parts, busy_from}
-use Rattle.memory_stores.proofs.Reading.{row_below, laid_get}
+use Rattle.memory_stores.proofs.Reading.{row_below}
 use Rattle.memory_stores.proofs.Slots.{some_of, slot_found, slot_nowhere, vacant_found, vacant_full, slots_same, names_off, taken_slot, taken_same, released_here, released_other}
 use Rattle.memory_stores.proofs.Writing.{length-cleared, laid_put, laid_put_new, laid_erase, put_present, put_absent, put_full, after_put_done, after_put_full, after_erase_done}
 

@@ -1,11 +1,11 @@
-use Rattle.std.proofs.Common.{◌≡◌, ℕ, zero, suc, ◌+◌, ◌-◌, ◌*◌, ◌<◌, ◌≤◌, Bool, true, false, cond, ◌&&◌, eqb, ltb, ◌⊎◌, List, length, get_or, set, replicate, is_some, Some, None, Option, unwrap_or, sym, refl, ap, ◌∙◌, inl, inr, le_refl, add-one, arith, get_or-set_other, get_or-set_same}
+use Rattle.std.proofs.Common.{◌≡◌, ℕ, zero, suc, ◌+◌, ◌<◌, ◌≤◌, true, false, cond, List, length, set, replicate, is_some, Some, None, Option, unwrap_or, sym, refl, ap, ◌∙◌, inl, inr, le_refl, add-one, arith, get_or-set_other, get_or-set_same}
 use lib.ListN.{get_or-replicate, length-replicate}
 use Rattle.std.proofs.lemmas.List.{set_past, get_or_past}
 use lib.Seq.{set-get_or}
-use Rattle.std.proofs.lemmas.Bool.{cases_Bool, cases_lt, cases_eq, both_ways, ne_eqb, eq-eqb, eqb-true}
+use Rattle.std.proofs.lemmas.Bool.{cases_Bool, cases_lt, cases_eq, both_ways, ne_eqb, eq-eqb}
 use Rattle.memory_stores.specs.declared.directory.Entry.{Entry}
 use Rattle.memory_stores.specs.Entries.{entry, names, no_entry, or_else, slot_of, busy, vacant, released}
-use Rattle.memory_stores.specs.Named.{some_first, names_parts, named_same, busy_from, busy_parts}
+use Rattle.memory_stores.specs.Named.{some_first, names_parts, named_same}
 
 pub some_of : (o : Option ℕ) → is_some o ≡ true → o ≡ Some (unwrap_or o 0)
 some_of (Some n) e = refl

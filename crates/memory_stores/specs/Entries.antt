@@ -1,4 +1,4 @@
-use Rattle.std.specs.Prelude.{ℕ, zero, suc, Bool, true, false, cond, not, ◌&&◌, List, is_some, Some, None, Option, ◌==◌, nat_lt, slice_index_or, slice_set}
+use Rattle.std.specs.Prelude.{ℕ, zero, suc, Bool, false, cond, not, ◌&&◌, List, is_some, Some, None, Option, ◌==◌, nat_lt, slice_index_or, slice_set}
 use Rattle.memory_stores.specs.declared.directory.Entry.{Entry}
 
 -- An entry that is not used.

@@ -1,4 +1,4 @@
-use Rattle.std.proofs.Common.{◌≡◌, ◌*◌}
+use Rattle.std.proofs.Common.{◌≡◌}
 use Rattle.memory_stores.specs.Laid.{cleared}
 use Rattle.memory_stores.proofs.row.clear.Given as goal
 

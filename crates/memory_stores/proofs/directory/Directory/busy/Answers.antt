@@ -19,6 +19,6 @@ pub returns : goal.returns
 unfolding busy
 returns c =
     let es = c.args.self.now.entries in
-    let e : c.is-none.result ≡ not (is_some (slot_of es c.args.slot (entry es c.args.slot).chunk)) =
-    sym (not_not c.is-none.result) ∙ ap not (sym c.is-none.ensures ∙ ap is_some c.slot-of.ensures) in
+    let e : c.is_none.result ≡ not (is_some (slot_of es c.args.slot (entry es c.args.slot).chunk)) =
+    sym (not_not c.is_none.result) ∙ ap not (sym c.is_none.ensures ∙ ap is_some c.slot_of.ensures) in
     rw (not-false _ c.if-not-entry.false, lt-ltb _ _ c.if-entry-limit.false) e

@@ -1,4 +1,4 @@
-use Rattle.std.proofs.Common.{◌≡◌, true, false, sym, ◌∙◌, arith}
+use Rattle.std.proofs.Common.{◌≡◌, true, false, sym, arith}
 use Rattle.memory_stores.specs.Entries.{busy}
 use Rattle.stores.specs.Counts.{count_start, count_step, count_le}
 use Rattle.memory_stores.proofs.directory.Directory.taken.Goals as goal
@@ -7,8 +7,8 @@ use Rattle.memory_stores.proofs.directory.Directory.taken.Goals.{then-busy, else
 pub loop-slot-init : goal.loop-slot-init
 loop-slot-init c = sym (count_start _)
 
-pub overflow-add-taken : goal.overflow-add-taken
-overflow-add-taken c = omega (arith, c.loop-slot.invariant, count_le (busy c.args.self.now.entries c.args.limit) c.loop-slot.slot, c.requires)
+pub overflow_add-taken : goal.overflow_add-taken
+overflow_add-taken c = omega (arith, c.loop-slot.invariant, count_le (busy c.args.self.now.entries c.args.limit) c.loop-slot.slot, c.requires)
 
 pub loop-slot-preserved : goal.loop-slot-preserved
 loop-slot-preserved c =

@@ -1,4 +1,4 @@
-use Rattle.std.proofs.Common.{◌≡◌, true, false, sym, ◌∙◌, arith}
+use Rattle.std.proofs.Common.{◌≡◌, true, false, sym, arith}
 use Rattle.memory_stores.specs.Entries.{busy}
 use Rattle.memory_stores.proofs.Slots.{vacant_start, vacant_next, vacant_first}
 use Rattle.memory_stores.proofs.directory.Directory.vacant.Goals as goal

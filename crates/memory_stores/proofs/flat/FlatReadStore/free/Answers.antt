@@ -1,4 +1,4 @@
-use Rattle.std.proofs.Common.{◌≡◌, ◌+◌, false, length, get_or, ap, ◌∙◌, arith, rules}
+use Rattle.std.proofs.Common.{◌≡◌, false, length, get_or, arith, rules}
 use Rattle.stores.specs.Counts.{count, count_step}
 use Rattle.memory_stores.specs.Extents.{flat_limit, flat_marks}
 use Rattle.memory_stores.proofs.OfFlat.{flat_free}

@@ -1,4 +1,4 @@
-use Rattle.std.proofs.Common.{◌≡◌, ℕ, ◌+◌, false, get_or}
+use Rattle.std.proofs.Common.{◌≡◌, ◌+◌, false, get_or}
 use Rattle.stores.specs.Counts.{count}
 use Rattle.memory_stores.proofs.flat.FlatReadStore.free.Given as goal
 

@@ -4,5 +4,5 @@ use Rattle.memory_stores.proofs.flat.FlatReadStore.present.Goals as goal
 
 pub bounds-self-chunk : goal.bounds-self-chunk
 bounds-self-chunk g c =
-    let a = c.in-ok-in-range.ensures.below refl in
+    let a = c.in_ok-in_range.ensures.below refl in
     omega (arith, flat_marks c.args.self.now.width (length c.args.self.now.values.now) (length c.args.self.now.marks.now))

@@ -8,8 +8,8 @@ use Rattle.memory_stores.proofs.pool.PoolReadStore.free.Goals as goal
 pub taken-requires : goal.taken-requires
 taken-requires g c = omega (arith, c.slots-slots.ensures, pool_slots_small c.args.self.now.width (length c.args.self.now.values.now))
 
-pub overflow-sub-result : goal.overflow-sub-result
-overflow-sub-result g c = omega (arith, c.taken.ensures, count_le (busy c.args.self.now.directory.entries c.limit.result) c.slots-slots.result)
+pub overflow_sub-result : goal.overflow_sub-result
+overflow_sub-result g c = omega (arith, c.taken.ensures, count_le (busy c.args.self.now.directory.entries c.limit.result) c.slots-slots.result)
 
 pub returns : goal.returns
 returns g c =

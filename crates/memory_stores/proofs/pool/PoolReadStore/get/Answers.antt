@@ -5,12 +5,12 @@ use Rattle.memory_stores.proofs.OfPool.{pool_row}
 use Rattle.memory_stores.proofs.Slots.{slot_found}
 use Rattle.memory_stores.proofs.pool.PoolReadStore.get.Goals as goal
 
-pub slot-of-requires : goal.slot-of-requires
-slot-of-requires g c = omega (arith, pool_slots_small c.args.self.now.width (length c.args.self.now.values.now))
+pub slot_of-requires : goal.slot_of-requires
+slot_of-requires g c = omega (arith, pool_slots_small c.args.self.now.width (length c.args.self.now.values.now))
 
-pub value-at-requires : goal.value-at-requires
-value-at-requires g c =
-    let b = c.in-ok-in-range-2.ensures.below refl in
+pub value_at-requires : goal.value_at-requires
+value_at-requires g c =
+    let b = c.in_ok-in_range-2.ensures.below refl in
     let self = c.args.self.now in
     let xs = self.values.now in
     let es = self.directory.entries in

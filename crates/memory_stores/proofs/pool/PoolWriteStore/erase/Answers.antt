@@ -24,8 +24,8 @@ loop-slot-init g c =
 pub bounds-self-slot : goal.bounds-self-slot
 bounds-self-slot g c = omega (arith, pool_slots_small c.args.self.now.width (length c.args.self.now.values.now))
 
-pub offset-bounds-self-slot : goal.offset-bounds-self-slot
-offset-bounds-self-slot g c =
+pub offset_bounds-self-slot : goal.offset_bounds-self-slot
+offset_bounds-self-slot g c =
     let h : c.loop-slot.slot < 256 = omega (arith, pool_slots_small c.args.self.now.width (length c.args.self.now.values.now)) in
     search rules
 
@@ -66,7 +66,7 @@ loop-slot-preserved g c =
 
 pub returns : goal.returns
 returns g c =
-    let a = c.in-ok-in-range.ensures.below refl in
+    let a = c.in_ok-in_range.ensures.below refl in
     let v = g.E.Element.blank in
     let self = c.args.self.now in
     let xs = self.values.now in

@@ -6,12 +6,12 @@ use Rattle.memory_stores.proofs.Slots.{slot_found, vacant_found}
 use Rattle.memory_stores.proofs.Writing.{length-cleared}
 use Rattle.memory_stores.proofs.pool.PoolWriteStore.put.Goals as goal
 
-pub slot-of-requires : goal.slot-of-requires
-slot-of-requires g c = omega (arith, pool_slots_small c.args.self.now.width (length c.args.self.now.values.now))
+pub slot_of-requires : goal.slot_of-requires
+slot_of-requires g c = omega (arith, pool_slots_small c.args.self.now.width (length c.args.self.now.values.now))
 
-pub set-at-requires : goal.set-at-requires
-set-at-requires g c =
-    let b = c.in-ok-in-range-2.ensures.below refl in
+pub set_at-requires : goal.set_at-requires
+set_at-requires g c =
+    let b = c.in_ok-in_range-2.ensures.below refl in
     let self = c.args.self.now in
     let xs = self.values.now in
     let es = self.directory.entries in
@@ -33,8 +33,8 @@ bounds-self-slot g c =
     let e : vacant es (pool_limit self.width self.limit) n ≡ Some s = cc in
     omega (arith, (vacant_found es (pool_limit self.width self.limit) n s e).0, pool_slots_small self.width (length self.values.now))
 
-pub offset-bounds-self-slot : goal.offset-bounds-self-slot
-offset-bounds-self-slot g c =
+pub offset_bounds-self-slot : goal.offset_bounds-self-slot
+offset_bounds-self-slot g c =
     let self = c.args.self.now in
     let es = self.directory.entries in
     let n = pool_slots self.width (length self.values.now) in
@@ -54,9 +54,9 @@ clear-requires g c =
     let row = pool_row g.E.Element.blank xs es self.width self.limit s (vacant_found es (pool_limit self.width self.limit) n s e).0 in
     record { row = rw c.width-width.ensures row }
 
-pub set-at-requires-in-Some-vacant : goal.set-at-requires-in-Some-vacant
-set-at-requires-in-Some-vacant g c =
-    let b = c.in-ok-in-range-2.ensures.below refl in
+pub set_at-requires-in-Some-vacant : goal.set_at-requires-in-Some-vacant
+set_at-requires-in-Some-vacant g c =
+    let b = c.in_ok-in_range-2.ensures.below refl in
     let v = g.E.Element.blank in
     let self = c.args.self.now in
     let xs = self.values.now in
@@ -71,8 +71,8 @@ set-at-requires-in-Some-vacant g c =
 
 pub returns-in-Some : goal.returns-in-Some
 returns-in-Some g c =
-    let a = c.in-ok-in-range.ensures.below refl in
-    let b = c.in-ok-in-range-2.ensures.below refl in
+    let a = c.in_ok-in_range.ensures.below refl in
+    let b = c.in_ok-in_range-2.ensures.below refl in
     let v = g.E.Element.blank in
     let self = c.args.self.now in
     let xs = self.values.now in
@@ -84,15 +84,15 @@ returns-in-Some g c =
       answer = put_old_answer v xs es self.width self.limit c.args.chunk c.args.place (omega arith) (omega arith) c.args.value s e;
       after =
           put_old v xs es self.width self.limit c.args.chunk c.args.place (omega arith) (omega arith) c.args.value s c.width-width.result c.width-width.ensures e
-          c.set-at.new.values
-          c.set-at.ensures;
+          c.set_at.new.values
+          c.set_at.ensures;
       refused = tt;
     }
 
 pub returns-in-Some-vacant : goal.returns-in-Some-vacant
 returns-in-Some-vacant g c =
-    let a = c.in-ok-in-range.ensures.below refl in
-    let b = c.in-ok-in-range-2.ensures.below refl in
+    let a = c.in_ok-in_range.ensures.below refl in
+    let b = c.in_ok-in_range-2.ensures.below refl in
     let v = g.E.Element.blank in
     let self = c.args.self.now in
     let xs = self.values.now in
@@ -109,16 +109,16 @@ returns-in-Some-vacant g c =
       after =
           put_new v xs es self.width self.limit c.args.chunk c.args.place (omega arith) (omega arith) c.args.value none s c.width-width.result c.width-width.ensures e (omega arith)
           c.clear.new.values
-          c.set-at-in-Some-vacant.new.values
+          c.set_at-in-Some-vacant.new.values
           c.clear.ensures
-          c.set-at-in-Some-vacant.ensures;
+          c.set_at-in-Some-vacant.ensures;
       refused = tt;
     }
 
 pub returns-in-None-vacant : goal.returns-in-None-vacant
 returns-in-None-vacant g c =
-    let a = c.in-ok-in-range.ensures.below refl in
-    let b = c.in-ok-in-range-2.ensures.below refl in
+    let a = c.in_ok-in_range.ensures.below refl in
+    let b = c.in_ok-in_range-2.ensures.below refl in
     let v = g.E.Element.blank in
     let self = c.args.self.now in
     let xs = self.values.now in
