@@ -8,7 +8,7 @@ value_at-requires g c =
     let a = c.in_ok-in_range.ensures.below refl in
     let b = c.in_ok-in_range-2.ensures.below refl in
     let row = archive_row g.E.Element.blank c.args.self.now.values.now c.args.self.now.width c.args.chunk (omega arith) in
-    record { row = rw c.width-width.ensures row; place = b }
+    record { row = rw c.width-width.ensures row; place = omega arith }
 
 pub returns : goal.returns
 returns g c =

@@ -1,9 +1,9 @@
 use Rattle.std.proofs.Common.{◌≡◌, false, length, get_or, arith, rules}
+use Rattle.std.proofs.lemmas.Grind.{common_steps}
 use Rattle.stores.specs.Counts.{count, count_step}
 use Rattle.memory_stores.specs.Extents.{flat_limit, flat_marks}
 use Rattle.memory_stores.proofs.OfFlat.{flat_free}
 use Rattle.memory_stores.proofs.flat.FlatReadStore.free.Goals as goal
-use Rattle.memory_stores.proofs.flat.FlatReadStore.free.Goals.{then-not-self-chunk, else-not-self-chunk}
 
 pub loop-chunk-init : goal.loop-chunk-init
 unfolding count
@@ -13,12 +13,7 @@ pub bounds-self-chunk : goal.bounds-self-chunk
 bounds-self-chunk g c = omega (arith, flat_marks c.args.self.now.width (length c.args.self.now.values.now) (length c.args.self.now.marks.now))
 
 pub loop-chunk-preserved : goal.loop-chunk-preserved
-loop-chunk-preserved g c =
-    let step = count_step (λ i. get_or c.args.self.now.marks.now i false) c.loop-chunk.chunk in
-    elim c.if-not-self-chunk.branch [
-      | then-not-self-chunk w ↦ omega (arith, w.free-is, c.loop-chunk.invariant, rw w.if-not-self-chunk.true at step)
-      | else-not-self-chunk w ↦ omega (arith, w.free-is, c.loop-chunk.invariant, rw w.if-not-self-chunk.false at step)
-    ]
+loop-chunk-preserved g c = grind (arith, common_steps, count_step (λ i. get_or c.args.self.now.marks.now i false) c.loop-chunk.chunk)
 
 pub returns : goal.returns
 returns g c =
