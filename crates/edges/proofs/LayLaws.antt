@@ -1,6 +1,6 @@
-use Rattle.std.proofs.Common.{◌≡◌, ℕ, zero, suc, ◌+◌, ◌-◌, ◌*◌, ◌^◌, ◌<◌, ◌≤◌, Bool, true, false, cond, ltb, leb, List, [], ◌∷◌, ◌++◌, map, length, get_or, take, drop, set, replicate, Ok, Err, sym, refl, ap, ◌∙◌, add-zero, add_assoc, mul-le-mul_left, mul-zero, zero-add, mul-one, mul-add, arith}
+use Rattle.std.proofs.Common.{◌≡◌, ℕ, zero, suc, ◌+◌, ◌-◌, ◌*◌, ◌^◌, ◌<◌, ◌≤◌, Bool, true, false, cond, ltb, leb, List, [], ◌∷◌, ◌++◌, map, length, get_or, take, drop, set, replicate, Ok, Err, sym, refl, ap, ◌∙◌, add-zero, add_assoc, mul-zero, zero-add, mul-one, mul-add, arith}
 use borrow.Rule.Slice.PartMut.{put_mid}
-use Rattle.std.proofs.lemmas.List.{drop_more, drop-drop, at_drop_all, length-append, length-replicate, append_assoc, append-nil, take_more_set, take_all, take_at, take-append-drop, replicate_more, get_or_append_left, length-take-le, length-drop}
+use Rattle.std.proofs.lemmas.List.{drop_more, drop-drop, at_drop_all, length-append, length-replicate, append_assoc, append-nil, take_more_set, take_at, take-append-drop, replicate_more, get_or_append_left, length-take-le, length-drop}
 use Rattle.std.proofs.lemmas.Slice.{take-put_mid, drop-put_mid}
 use Rattle.std.proofs.lemmas.Bool.{or_parts, cond-true, cond-false, le-leb, lt-leb, ltb-true}
 use Rattle.edges.specs.declared.table.Run.{Run}
@@ -48,14 +48,6 @@ module _ (start e : ℕ) where
   filling_none place = record { ahead = let h = mul-zero e in omega arith; written = refl }
 
   module _ (i next : ℕ) (place : List OffsetSize) (p : Filling start e i next place) where
-    pub filling_fits : i < length place → start + e * length place < 2 ^ 64 → next + e < 2 ^ 64
-    filling_fits l f =
-        let a = p.ahead in
-        let m : e * (i + 1) ≤ e * length place = mul-le-mul_left e (omega arith) in
-        let d = mul-add e i 1 in
-        let o = mul-one e in
-        omega arith
-
     pub filling_more : i < length place → Filling start e (i + 1) (next + e) (set place i (row next e))
     unfolding offsets
     filling_more l =
@@ -70,11 +62,6 @@ module _ (start e : ℕ) where
               ∙ sym (offsets-append start (replicate i e) (e ∷ []))
               ∙ ap (offsets start) (replicate_more i e);
         }
-
-    pub filling_all : (n : ℕ) → length place ≡ n → n ≤ i → i ≤ n → place ≡ offsets start (replicate n e)
-    filling_all n q h k =
-        let s : i ≡ n = omega arith in
-        sym (take_all i place (omega arith)) ∙ p.written ∙ ap (λ m. offsets start (replicate m e)) s
 
 -- what `number_of_edges` answers
 pub number_ok : (rs : List Run) (n : ℕ) → Ok n ≡ number_answer rs

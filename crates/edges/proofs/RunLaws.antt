@@ -79,9 +79,6 @@ pub record Counted (rs : List Run) (i sum number : ℕ) : Type 0 where
   pub small : number < 2 ^ 64
   pub numbers : min (number + length (expand (drop i rs))) (2 ^ 64 - 1) ≡ min (length (expand rs)) (2 ^ 64 - 1)
 
-pub counted_none : (rs : List Run) → Counted rs 0 0 0
-counted_none rs = record { zeros = refl; sums = ap (λ n. min n (2 ^ 128 - 1)) (zero-add (total (expand rs))); small = omega arith; numbers = ap (λ n. min n (2 ^ 64 - 1)) (zero-add (length (expand rs))) }
-
 module _ (rs : List Run) (i sum number : ℕ) (p : Counted rs i sum number) where
   module _ (l : i < length rs) where
     pub counted_more : (e n sum' number' : ℕ) → made e n ≡ parts_answer (get_or rs i no_run)

@@ -30,6 +30,10 @@ layer_number Store = 4
 abbrev pub refusal : Cause → Layer → Fault
 refusal c l = record { cause = c; layer = l; axis = 255 }
 
+-- A refusal that names an axis.
+abbrev pub axis_refusal : Cause → Layer → ℕ → Fault
+axis_refusal c l a = record { cause = c; layer = l; axis = a }
+
 -- A refusal of the layer of edges.
 abbrev pub edges_refusal : Cause → Fault
 edges_refusal c = refusal c Edges

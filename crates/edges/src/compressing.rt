@@ -1,20 +1,11 @@
 ghost use Rattle.std.specs.Prelude.{◌≡◌, ◌≤◌, false, ◌++◌, length, drop};
-ghost use Rattle.edges.specs.Runs.{run_of, runs_of, has_zero};
+ghost use Rattle.edges.specs.Runs.{runs_of, has_zero};
 ghost use Rattle.edges.specs.Answers.{runs_answer, compress_answer, counted, placed, Shortest};
 
 use crate::fault::{Cause, Fault, Layer};
+use crate::group::Group;
 use crate::length::{Edge, RunCount};
 use crate::table::Run;
-
-// The run of an edge and a count.
-fn run_of(edge: Edge, count: RunCount) -> Run
-    ensures { result ≡ run_of edge.length count.count }
-{
-    match count.get() {
-        number if number > 1 => Run::Repeated(edge.get(), number),
-        _ => Run::Single(edge.get()),
-    }
-}
 
 // How many runs the edges make; a 0 is refused.
 fn number_of_runs(edges: &[u64]) -> Result<usize, Fault>
@@ -27,7 +18,7 @@ fn number_of_runs(edges: &[u64]) -> Result<usize, Fault>
     let mut number = 1;
     for length in rest {
         let next = Edge::new(*length)?;
-        if next.get() != edge.get() {
+        if next != edge {
             number += 1;
         }
         edge = next;
@@ -44,22 +35,21 @@ fn write_runs(edges: &[u64], place: &mut [Run])
     let [first, rest @ ..] = edges else {
         return;
     };
-    let mut edge = Edge { length: *first };
-    let mut count = RunCount { count: 1 };
+    let mut group = Group::one(Edge { number: *first });
+    // Counted by hand: a place is written only where a group ends.
     let mut at = 0;
     for next in rest {
-        if *next == edge.get() {
-            count = RunCount {
-                count: count.get() + 1,
+        if *next == group.edge.get() {
+            group.count = RunCount {
+                number: group.count.get() + 1,
             };
         } else {
-            place[at] = run_of(edge, count);
+            place[at] = Run::from(group);
             at += 1;
-            edge = Edge { length: *next };
-            count = RunCount { count: 1 };
+            group = Group::one(Edge { number: *next });
         }
     }
-    place[at] = run_of(edge, count);
+    place[at] = Run::from(group);
 }
 
 // Joins equal neighbours among the edges into runs, and answers the number of runs.

@@ -1,21 +1,11 @@
 ghost use Rattle.std.specs.Prelude.{◌≡◌, ◌+◌, ◌*◌, ◌^◌, ◌<◌, length, replicate};
-ghost use Rattle.edges.specs.Refusals.{mapped};
 ghost use Rattle.edges.specs.Runs.{offsets};
-ghost use Rattle.edges.specs.Answers.{parts_answer, number_answer, lay_answer, counted, placed, Laid};
+ghost use Rattle.edges.specs.Answers.{number_answer, lay_answer, counted, placed, Laid};
 
 use crate::fault::{Cause, Fault, Layer};
+use crate::group::Group;
 use crate::length::{Edge, RunCount};
 use crate::table::{OffsetSize, Run};
-
-// The edge and the count of a run; a 0 is refused.
-fn parts(run: Run) -> Result<(Edge, RunCount), Fault>
-    ensures { mapped (λ p. (p.0.length, p.1.count)) result ≡ parts_answer run }
-{
-    match run {
-        Run::Single(edge) => Ok((Edge::new(edge)?, RunCount { count: 1 })),
-        Run::Repeated(edge, count) => Ok((Edge::new(edge)?, RunCount::new(count)?)),
-    }
-}
 
 // How many edges the runs stand for; a 0 in any run is refused, and then a sum above 2^64 - 1.
 fn number_of_edges(runs: &[Run]) -> Result<u64, Fault>
@@ -24,7 +14,7 @@ fn number_of_edges(runs: &[Run]) -> Result<u64, Fault>
     let mut sum: u128 = 0;
     let mut number: u64 = 0;
     for run in runs {
-        let (edge, count) = parts(*run)?;
+        let Group { edge, count } = Group::try_from(*run)?;
         sum = sum.saturating_add(edge.get() as u128 * count.get() as u128);
         number = number.saturating_add(count.get());
     }
@@ -36,8 +26,8 @@ fn number_of_edges(runs: &[Run]) -> Result<u64, Fault>
 
 // Fills the place with edges of one length, from an offset on.
 fn lay_run(place: &mut [OffsetSize], offset: u64, edge: Edge)
-    requires { offset + edge.length * length place.old < 2 ^ 64 }
-    ensures { place.new ≡ offsets offset (replicate (length place.old) edge.length) }
+    requires { offset + edge.number * length place.old < 2 ^ 64 }
+    ensures { place.new ≡ offsets offset (replicate (length place.old) edge.number) }
 {
     let mut next = offset;
     for row in place.iter_mut() {
@@ -59,6 +49,8 @@ pub fn lay(runs: &[Run], table: &mut [OffsetSize]) -> Result<usize, Fault>
     if entries > table.len() {
         return Err(Fault::new(Cause::Short, Layer::Edges));
     }
+    // The place is counted by hand: where `split_at_mut` gives the parts of the table one after
+    // another, no proof knows what the table holds afterwards.
     let mut at = 0;
     let mut offset = 0;
     for run in runs {
@@ -66,8 +58,8 @@ pub fn lay(runs: &[Run], table: &mut [OffsetSize]) -> Result<usize, Fault>
             Run::Single(length) => (length, 1),
             Run::Repeated(length, number) => (length, number),
         };
-        let edge = Edge { length };
-        let count = RunCount { count: number };
+        let edge = Edge { number: length };
+        let count = RunCount { number };
         let end = at + count.get() as usize;
         lay_run(&mut table[at..end], offset, edge);
         offset += edge.get() * count.get();

@@ -3,52 +3,33 @@ ghost use Rattle.edges.specs.Refusals.{mapped, positive_answer};
 
 use crate::fault::{Cause, Fault, Layer};
 
-// An edge length: a number that is never 0.
-#[derive(Clone, Copy)]
-pub struct Edge {
-    pub length: u64,
-    ghost positive: { 1 ≤ length },
+// A number that is never 0. It is not std's type of this name, since a 0 is refused by number here.
+#[derive(Clone, Copy, PartialEq, Eq, Debug)]
+pub struct NonZeroU64 {
+    pub number: u64,
+    ghost positive: { 1 ≤ number },
 }
 
-// How often a run repeats its edge: a number that is never 0.
-#[derive(Clone, Copy)]
-pub struct RunCount {
-    pub count: u64,
-    ghost positive: { 1 ≤ count },
-}
+// An edge length.
+pub type Edge = NonZeroU64;
 
-impl Edge {
-    // The edge of this length; 0 is refused.
-    pub fn new(length: u64) -> Result<Edge, Fault>
-        ensures { mapped (λ e. e.length) result ≡ positive_answer length }
+// How often a run repeats its edge.
+pub type RunCount = NonZeroU64;
+
+impl NonZeroU64 {
+    // This number; 0 is refused.
+    pub fn new(number: u64) -> Result<NonZeroU64, Fault>
+        ensures { mapped (λ n. n.number) result ≡ positive_answer number }
     {
-        if length == 0 {
+        if number == 0 {
             return Err(Fault::new(Cause::Zero, Layer::Edges));
         }
-        Ok(Edge { length })
+        Ok(NonZeroU64 { number })
     }
 
     pub fn get(self) -> u64
-        ensures { result ≡ self.length }
+        ensures { result ≡ self.number }
     {
-        self.length
-    }
-}
-
-impl RunCount {
-    // The count with this number; 0 is refused.
-    pub fn new(count: u64) -> Result<RunCount, Fault>
-        ensures { mapped (λ n. n.count) result ≡ positive_answer count }
-    {
-        if count == 0 {
-            return Err(Fault::new(Cause::Zero, Layer::Edges));
-        }
-        Ok(RunCount { count })
-    }
-
-    pub fn get(self) -> u64
-        ensures { result ≡ self.count }
-    {
-        self.count
+        self.number
     }
 }

@@ -1,4 +1,5 @@
 // Runs the program on scripts that ask regular and bounded grids, whose answers were worked out by hand.
+// A program is run on one input, so each set of cases has a program of its own.
 #![tactic(auto)]
 
 use std::io;

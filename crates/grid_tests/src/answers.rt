@@ -13,9 +13,5 @@ pub(crate) fn absent() -> Result<Option<()>, Fault> {
 
 // A refusal of the grid's layer; axis 255 names none.
 pub(crate) fn refused(cause: Cause, axis: u8) -> Result<Option<()>, Fault> {
-    Err(Fault {
-        cause,
-        layer: Layer::Grid,
-        axis,
-    })
+    Err(Fault::on_axis(cause, Layer::Grid, axis))
 }

@@ -34,12 +34,7 @@ fn lengths_differ_or_an_edge_is_zero(rt: HostRuntime) {
     assert_eq!(rt; made, Err(Fault::new(Cause::Length, Layer::Grid)));
     assert_eq!(rt; grid.dimensionality(), 0);
     let (grid, made) = RegularBounded::new(&[5, 5, 5], &[1, 0, 0]);
-    let zero = Fault {
-        cause: Cause::Zero,
-        layer: Layer::Grid,
-        axis: 1,
-    };
-    assert_eq!(rt; made, Err(zero));
+    assert_eq!(rt; made, Err(Fault::on_axis(Cause::Zero, Layer::Grid, 1)));
     assert_eq!(rt; grid.dimensionality(), 0);
     assert_eq!(rt; grid.size(0), None);
 }

@@ -80,7 +80,7 @@ module _ (f : ℕ → Answer ℕ) where
       ap₂ push r (b n (le_refl _))
       ∙ ap (λ (zs : List ℕ). Ok (Some zs)) (sym (take_more xs n 0 h) ∙ take_all (n + 1) xs (omega arith))
 
-  absent : (n a : ℕ) → a < n → f a ≡ Ok None → gathered f n ≡ Ok None
+  pub absent : (n a : ℕ) → a < n → f a ≡ Ok None → gathered f n ≡ Ok None
   unfolding gathered
   absent zero a l h = absurd (let n : ⊥ = omega arith in n)
   absent (suc n) a l h =

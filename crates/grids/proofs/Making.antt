@@ -1,16 +1,9 @@
-use Rattle.std.proofs.Common.{◌≡◌, ℕ, zero, suc, ◌<◌, ◌≤◌, List, [], Some, None, Ok, Err, Option, Result, refl, ap, ◌∙◌, ⊎_elim, arith}
+use Rattle.std.proofs.Common.{◌≡◌, ℕ, zero, suc, ◌<◌, ◌≤◌, Some, None, Ok, Err, Option, refl, ap, ◌∙◌, ⊎_elim, arith}
 use Rattle.std.proofs.lemmas.Bool.{cases_lt}
 use Rattle.edges.specs.declared.fault.Cause.{Cause}
-use Rattle.edges.specs.declared.fault.Fault.{Fault}
 use Rattle.axes.specs.Axes.{Axis, axes_by}
 use Rattle.grids.specs.Places.{refused_at}
-use Rattle.grids.specs.Making.{Makes, else_at, first_fault, unless, made_by}
-
-pub makes_grid : (xs ys : List Axis) (d : Result (List Axis) Fault) → d ≡ Ok ys → xs ≡ ys → Makes (Ok tt) xs d
-makes_grid xs ys d p q = rw p (refl, q)
-
-pub makes_none : (f : Fault) (xs : List Axis) (d : Result (List Axis) Fault) → d ≡ Err f → xs ≡ [] → Makes (Err f) xs d
-makes_none f xs d p q = rw p (refl, q)
+use Rattle.grids.specs.Making.{else_at, first_fault, unless, made_by}
 
 -- The first fault among the axes.
 module _ (f : ℕ → Option Cause) where

@@ -1,11 +1,13 @@
-use Rattle.std.proofs.Common.{◌≡◌, ℕ, zero, suc, ◌+◌, ◌-◌, ◌^◌, ◌<◌, ◌≤◌, Bool, true, false, cond, ◌||◌, eqb, ltb, List, [], ◌∷◌, length, get_or, Some, None, Option, sym, refl, ap, ◌∙◌, subst, ⊎_elim, arith}
+use Rattle.std.proofs.Common.{◌≡◌, ℕ, zero, suc, ◌+◌, ◌-◌, ◌^◌, ◌<◌, ◌≤◌, Bool, true, false, cond, eqb, ltb, List, [], ◌∷◌, length, get_or, Some, None, Ok, Err, Option, sym, refl, subst, ⊎_elim, arith}
 use Rattle.std.specs.List.{slice_get}
-use Rattle.std.proofs.lemmas.Bool.{cases_lt, cond-true, cond-false, lt-ltb, le-ltb, ltb-true, eq-eqb, eqb-false, ne_eqb, or_parts}
+use Rattle.std.specs.Option.{SomeIff, ok_or}
+use Rattle.std.proofs.lemmas.Bool.{cases_lt, cond-false, le-ltb, ltb-true, eqb-false, or_parts}
 use Rattle.edges.specs.declared.fault.Cause.TheVariants.{Overflow}
 use Rattle.edges.specs.declared.fault.Fault.{Fault}
 use Rattle.axes.specs.Axes.{Axis, chunk_of, LawfulAxis, Lawful}
 use Rattle.axes.specs.ChunkLaws.{chunk_of-Contains, number_below, before_later}
-use Rattle.grids.specs.Making.{first_fault, else_at}
+use Rattle.grids.specs.Places.{Answer}
+use Rattle.grids.specs.Making.{first_fault, else_at, unless}
 use Rattle.grids.specs.Answers.{asked, of_axis, has_zero, beyond}
 use Rattle.grids.proofs.Never.{never}
 use Rattle.grids.proofs.Asked.{each_at}
@@ -26,21 +28,6 @@ chunks_ordered xs lawful a i n f l some p q = go (slice_get xs a) refl (sym p) (
           number_below x (each_at LawfulAxis xs a x lawful.1 e) (i + n - 1) l d,
         )
 
--- a shape with a 0
-pub zero_at : (ns : List ℕ) (k : ℕ) → k < length ns → get_or ns k 0 ≡ 0 → has_zero ns ≡ true
-zero_at [] k l h = absurd (let n : ⊥ = omega arith in n)
-zero_at (n ∷ ns) zero l h = ap (λ b. b || has_zero ns) (eq-eqb n 0 h)
-zero_at (n ∷ ns) (suc k) l h = ap (λ b. eqb n 0 || b) (zero_at ns k (omega arith) h) ∙ or_true (eqb n 0)
-  where
-    or_true : (b : Bool) → (b || true) ≡ true
-    or_true true = refl
-    or_true false = refl
-
-pub no_zero : (ns : List ℕ) → ((k : ℕ) → k < length ns → get_or ns k 0 ≡ 0 → ⊥) → has_zero ns ≡ false
-no_zero [] h = refl
-no_zero (n ∷ ns) h =
-    ap (λ b. b || has_zero ns) (ne_eqb n 0 (h 0 (omega arith))) ∙ no_zero ns (λ k l e. h (suc k) (omega arith) e)
-
 pub positive_at : (ns : List ℕ) (k : ℕ) → has_zero ns ≡ false → k < length ns → 1 ≤ get_or ns k 0
 positive_at [] k h l = absurd (let n : ⊥ = omega arith in n)
 positive_at (n ∷ ns) zero h l =
@@ -49,9 +36,6 @@ positive_at (n ∷ ns) (suc k) h l = positive_at ns k (or_parts (eqb n 0) (has_z
 
 -- where start + shape exceeds 64 bits
 module _ (start shape : List ℕ) where
-  pub within_at : (a : ℕ) → get_or start a 0 + get_or shape a 0 < 2 ^ 64 → beyond start shape a ≡ None
-  within_at a h = cond-true (ltb (get_or start a 0 + get_or shape a 0) (2 ^ 64)) _ _ (lt-ltb _ _ h)
-
   pub beyond_at : (a : ℕ) → 2 ^ 64 ≤ get_or start a 0 + get_or shape a 0 → beyond start shape a ≡ Some Overflow
   beyond_at a h = cond-false (ltb (get_or start a 0 + get_or shape a 0) (2 ^ 64)) _ _ (le-ltb _ _ h)
 
@@ -70,3 +54,25 @@ module _ (start shape : List ℕ) where
           ⊎_elim (λ (b : a < n). r p b)
           (λ (b : n ≤ a). let e : n ≡ a = omega arith in subst (λ k. get_or start k 0 + get_or shape k 0 < 2 ^ 64) e (ltb-true _ _ q))
           (cases_lt a n)
+
+  -- the same, where this is an answer
+  pub ends_within : (n a : ℕ) (u : Unit {0}) → Ok u ≡ unless (first_fault (beyond start shape) n) (Ok tt) → a < n → get_or start a 0 + get_or shape a 0 < 2 ^ 64
+  ends_within n a u h l = go (first_fault (beyond start shape) n) refl h
+    where
+      go : (o : Option Fault) → first_fault (beyond start shape) n ≡ o → Ok u ≡ unless o (Ok tt) → get_or start a 0 + get_or shape a 0 < 2 ^ 64
+      go (Some f) p q = never (cc)
+      go None p q = all_within n a p l
+
+-- what is answered for a region with no 0 and ends of 64 bits
+pub asked_region : {B : Type 0} (start shape : List ℕ) (n m : ℕ) (u : Unit {0}) (x y : Answer B) → n ≡ m → has_zero shape ≡ false
+    → Ok u ≡ unless (first_fault (beyond start shape) n) (Ok tt) → y ≡ cond (has_zero shape) x (unless (first_fault (beyond start shape) m) y)
+asked_region {B} start shape n m u x y e z h = rw (z, ← e) (go (first_fault (beyond start shape) n) h)
+  where
+    go : (o : Option Fault) → Ok u ≡ unless o (Ok tt) → y ≡ unless {B = Option B} o y
+    go (Some f) q = never (cc)
+    go None q = refl
+
+-- a sum that is refused exceeds 64 bits
+pub sum_refused : (o : Option ℕ) (s : ℕ) (f e : Fault) → SomeIff o (s < 2 ^ 64) s → Err e ≡ ok_or o f → (2 ^ 64 ≤ s) × (e ≡ f)
+sum_refused None s f e h p = (omega (arith, h), cc)
+sum_refused (Some v) s f e h p = never (cc)

@@ -1,14 +1,6 @@
-use Rattle.std.proofs.Common.{◌≡◌, ℕ, zero, suc, ◌+◌, ◌<◌, ◌≤◌, ◌≢◌, List, map, length, get_or, set, refl, arith, get_or-set_other, get_or-set_same, below_more}
+use Rattle.std.proofs.Common.{◌≡◌, ℕ, zero, suc, ◌+◌, ◌<◌, ◌≤◌, map, refl, arith}
 use Rattle.std.specs.List.{range_with_len}
 use Rattle.axes.specs.Axes.{Axis}
-
--- one more number is stored
-pub stored_more : (P : ℕ → ℕ → Type 0) (xs : List ℕ) (i v : ℕ) → i < length xs
-    → ((k : ℕ) → k < i → P k (get_or xs k 0)) → P i v → (k : ℕ) → k < i + 1 → P k (get_or (set xs i v) k 0)
-stored_more P xs i v l before here =
-    below_more (λ k. P k (get_or (set xs i v) k 0)) i
-    (λ k h. let ne : k ≢ i = omega arith in rw get_or-set_other (before k h))
-    (rw get_or-set_same here)
 
 -- axes that agree at each number are the same
 pub axes_alike : (f g : ℕ → Axis) (a n : ℕ) → ((k : ℕ) → a ≤ k → k < a + n → f k ≡ g k) → map f (range_with_len a n) ≡ map g (range_with_len a n)

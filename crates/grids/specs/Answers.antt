@@ -1,6 +1,6 @@
 use Rattle.std.specs.Prelude.{ℕ, zero, suc, ◌+◌, ◌-◌, ◌^◌, Bool, true, false, cond, ◌&&◌, ◌||◌, List, [], ◌∷◌, ◌++◌, length, replicate, is_some, Some, None, Ok, Err, Option, ◌==◌, nat_lt, slice_index}
 use Rattle.std.specs.List.{slice_get}
-use Rattle.edges.specs.declared.length.Edge.{Edge}
+use Rattle.edges.specs.declared.length.NonZeroU64.{NonZeroU64}
 use Rattle.edges.specs.declared.fault.Cause.{Cause}
 use Rattle.edges.specs.declared.fault.Cause.TheVariants.{Overflow}
 use Rattle.axes.specs.Axes.{Axis, origin, chunk_of}
@@ -8,9 +8,9 @@ use Rattle.grids.specs.Places.{Answer, refused_at, sized}
 use Rattle.grids.specs.Making.{first_fault, unless}
 
 -- An edge as a number.
-abbrev pub lengths : Option Edge → Option ℕ
+abbrev pub lengths : Option NonZeroU64 → Option ℕ
 lengths None = None
-lengths (Some e) = Some e.length
+lengths (Some e) = Some e.number
 
 -- What a question of axis a answers: nothing where the grid lacks the axis.
 abbrev pub of_axis : {B : Type 0} → (Axis → Option B) → Option Axis → Option B

@@ -1,19 +1,17 @@
-use Rattle.std.specs.Prelude.{◌≡◌, ℕ, List, take, Some, None, Ok, Err}
-use Rattle.grids.specs.declared.gathered.Gathered.{Gathered}
-use Rattle.grids.specs.declared.gathered.Outcome.{Outcome}
-use Rattle.grids.specs.declared.gathered.Outcome.TheVariants.{Found, Absent, Refused}
-use Rattle.grids.specs.Answers.{gathered}
+use Rattle.std.specs.Prelude.{◌≡◌, ℕ, ◌^◌, ◌<◌, List, length, take, Some, None, Ok, Err, slice_index}
+use Rattle.axes.specs.Axes.{Axis}
 use Rattle.grids.specs.Places.{Answer}
 
-abbrev pub listed : Outcome → List ℕ → Answer (List ℕ)
-listed Found xs = Ok (Some xs)
-listed Absent xs = Ok None
-listed (Refused f) xs = Err f
+-- An answer in the first n numbers of a list.
+abbrev pub front : ℕ → Answer (List ℕ) → Answer (List ℕ)
+front n (Ok (Some xs)) = Ok (Some (take n xs))
+front n (Ok None) = Ok None
+front n (Err f) = Err f
 
--- What has been gathered so far.
-abbrev pub so_far : Gathered → Answer (List ℕ)
-so_far g = listed g.outcome (take g.number g.values)
+-- Whoever is asked at axis a about its number can only answer f a.
+abbrev pub Answering : (ℕ → ℕ → Answer ℕ → Type 0) → List ℕ → (ℕ → Answer ℕ) → Type 0
+Answering post ks f = (a : ℕ) (r : Answer ℕ) → a < length ks → post a (slice_index ks a) r → r ≡ f a
 
--- the answers of axes 0 .. n - 1 have been gathered
-abbrev pub Gathers : Gathered → (ℕ → Answer ℕ) → ℕ → Type 0
-Gathers g f n = (so_far g ≡ gathered f n) × (g.number ≡ n)
+-- The same for every number of 64 bits, at each of some axes.
+abbrev pub Asks : (ℕ → ℕ → Answer ℕ → Type 0) → List Axis → (List Axis → ℕ → ℕ → Answer ℕ) → Type 0
+Asks post xs f = (a k : ℕ) (r : Answer ℕ) → a < length xs → k < 2 ^ 64 → post a k r → r ≡ f xs a k

@@ -3,6 +3,5 @@ pub mod Making
 pub mod Answers
 pub mod Arrays
 pub mod Gathers
-pub mod Asking
 pub mod Laws
 pub mod Found

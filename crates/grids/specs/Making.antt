@@ -1,13 +1,18 @@
-use Rattle.std.specs.Prelude.{◌≡◌, ℕ, zero, suc, List, [], Some, None, Ok, Err, Option, Result}
+use Rattle.std.specs.Prelude.{◌≡◌, ℕ, zero, suc, cond, ◌==◌, nat_le, List, [], Some, None, Ok, Err, Option, Result}
 use Rattle.edges.specs.declared.fault.Cause.{Cause}
+use Rattle.edges.specs.declared.fault.Cause.TheVariants.{Length, Axes}
 use Rattle.edges.specs.declared.fault.Fault.{Fault}
 use Rattle.axes.specs.Axes.{Axis, axes_by}
-use Rattle.grids.specs.Places.{refused_at}
+use Rattle.grids.specs.Places.{refused, refused_at}
 
 -- What a making answers: the grid that it defines, or a refusal beside a grid of no axes.
 abbrev pub Makes : Result (Unit {0}) Fault → List Axis → Result (List Axis) Fault → Type 0
 Makes r xs (Ok ys) = (r ≡ Ok tt) × (xs ≡ ys)
 Makes r xs (Err f) = (r ≡ Err f) × (xs ≡ [])
+
+-- What every making refuses first: 1 where its lists differ in length, 2 above 8 axes.
+abbrev pub axes_answer : ℕ → ℕ → Result (Unit {0}) Fault
+axes_answer n m = cond (n == m) (cond (nat_le n 8) (Ok tt) (Err (refused Axes))) (Err (refused Length))
 
 -- The first cause among those of axes 0 .. n - 1.
 abbrev pub else_at : Option Fault → ℕ → Option Cause → Option Fault

@@ -1,14 +1,16 @@
 // Chunk grids: what each of them answers, and the questions over index lists that any of them serves.
 #![tactic(auto)]
 
-mod gathered;
+mod axis;
+mod checking;
+mod gather;
 mod grid;
 mod products;
-mod question;
 mod questions;
 mod regions;
 mod theorems;
 
+pub use checking::check_axes;
 pub use grid::ChunkGrid;
 pub use products::fits_by;
 pub use questions::{

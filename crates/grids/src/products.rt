@@ -17,13 +17,8 @@ fn product_within(numbers: &[u64], limit: u64) -> bool
     let mut so_far: u64 = 1;
     for n in numbers {
         match so_far.checked_mul(*n) {
-            Some(p) => {
-                if p > limit {
-                    return false;
-                }
-                so_far = p;
-            }
-            None => return false,
+            Some(product) if product <= limit => so_far = product,
+            _ => return false,
         }
     }
     true
@@ -33,11 +28,5 @@ fn product_within(numbers: &[u64], limit: u64) -> bool
 pub fn fits_by(counts: &[u64], longest: &[u64], limit: u64, width: u64) -> bool
     ensures { (xs : List Axis) → Longest xs counts.now longest.now → Decides result (Fits xs limit width) }
 {
-    if has_zero(counts) {
-        return true;
-    }
-    if !product_within(counts, limit) {
-        return false;
-    }
-    product_within(longest, width)
+    has_zero(counts) || product_within(counts, limit) && product_within(longest, width)
 }

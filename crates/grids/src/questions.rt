@@ -1,57 +1,60 @@
-ghost use Rattle.std.specs.Prelude.{◌≡◌, [], ◌∷◌, length, slice_index};
-ghost use Rattle.grids.specs.Places.{Gives, sized};
+ghost use Rattle.std.specs.Prelude.{◌≡◌, ℕ, ◌^◌, ◌<◌, List, [], ◌∷◌, length, slice_index};
+ghost use Rattle.axes.specs.Axes.{Axis};
+ghost use Rattle.grids.specs.Places.{Answer, Gives, sized};
 ghost use Rattle.grids.specs.Answers.{array_shape_answer, grid_shape_answer, chunk_shape_answer, chunk_origin_answer, chunk_indices_answer, chunk_element_indices_answer, subset_answer, chunks_in_answer, inbounds, each_answer, list_answer, edge_answer, origin_answer};
-ghost use Rattle.grids.specs.Asking.{answer};
+ghost use Rattle.grids.specs.Gathers.{Asks};
 ghost use Rattle.grids.specs.Found.{AxisByAxis, Tells, FoundAt, PlacedAt};
 
-use crate::gathered::write_both;
+use crate::axis::{axis_inbounds, chunk_number, edge_length, element, end};
+use crate::gather::{gather, write, write_both};
 use crate::grid::ChunkGrid;
-use crate::question::{Question, ask_each, axis_inbounds, chunk_numbers};
-use crate::regions::{beyond, has_zero};
+use crate::regions::{ends_fit, has_zero};
 use edges::{Cause, Fault, Layer};
 
 // Asks each axis, whatever the place holds.
-fn answer_shape<G: ChunkGrid>(
+fn answer_shape<G: ChunkGrid, F: Fn(usize, u64) -> Result<Option<u64>, Fault>>(
     grid: &G,
-    question: Question,
     place: &mut [u64],
+    ask: F,
 ) -> Result<Option<()>, Fault>
-    ensures { Gives place.old place.new result (sized (length place.old ∷ []) (length (G.axes grid.now)) (each_answer (answer question) (G.axes grid.now) place.old)) }
+    requires { (a k : ℕ) → a < length (G.axes grid.now) → k < 2 ^ 64 → F.pre ask a k }
+    ensures { (f : List Axis → ℕ → ℕ → Answer ℕ) → Asks (F.post ask) (G.axes grid.now) f → Gives place.old place.new result (sized (length place.old ∷ []) (length (G.axes grid.now)) (each_answer f (G.axes grid.now) place.old)) }
 {
     if place.len() != grid.dimensionality() {
         return Err(Fault::new(Cause::Length, Layer::Grid));
     }
-    ask_each(grid, question, place).write(place)
+    write(gather(place, ask), place)
 }
 
 // Asks each axis about its number.
-fn answer_list<G: ChunkGrid>(
+fn answer_list<G: ChunkGrid, F: Fn(usize, u64) -> Result<Option<u64>, Fault>>(
     grid: &G,
-    question: Question,
     numbers: &[u64],
     place: &mut [u64],
+    ask: F,
 ) -> Result<Option<()>, Fault>
-    ensures { Gives place.old place.new result (list_answer (answer question) (G.axes grid.now) numbers.now (length place.old)) }
+    requires { (a k : ℕ) → a < length (G.axes grid.now) → k < 2 ^ 64 → F.pre ask a k }
+    ensures { (f : List Axis → ℕ → ℕ → Answer ℕ) → Asks (F.post ask) (G.axes grid.now) f → Gives place.old place.new result (list_answer f (G.axes grid.now) numbers.now (length place.old)) }
 {
     let number = grid.dimensionality();
     if numbers.len() != number || place.len() != number {
         return Err(Fault::new(Cause::Length, Layer::Grid));
     }
-    ask_each(grid, question, numbers).write(place)
+    write(gather(numbers, ask), place)
 }
 
 // The size of each axis.
 pub fn array_shape<G: ChunkGrid>(grid: &G, place: &mut [u64]) -> Result<Option<()>, Fault>
     ensures { Gives place.old place.new result (array_shape_answer (G.axes grid.now) (length place.old)) }
 {
-    answer_shape(grid, Question::Size, place)
+    answer_shape(grid, place, |axis, _| Ok(grid.size(axis)))
 }
 
 // The number of chunks on each axis.
 pub fn grid_shape<G: ChunkGrid>(grid: &G, place: &mut [u64]) -> Result<Option<()>, Fault>
     ensures { Gives place.old place.new result (grid_shape_answer (G.axes grid.now) (length place.old)) }
 {
-    answer_shape(grid, Question::Chunks, place)
+    answer_shape(grid, place, |axis, _| Ok(grid.chunks(axis)))
 }
 
 // The edges of a chunk.
@@ -63,7 +66,12 @@ pub fn chunk_shape<G: ChunkGrid>(
     ensures answer { Gives place.old place.new result (chunk_shape_answer (G.axes grid.now) chunk.now (length place.old)) }
     ensures by_axis { AxisByAxis (λ a. edge_answer (G.axes grid.now) a (slice_index chunk.now a)) (length (G.axes grid.now)) result place.new }
 {
-    answer_list(grid, Question::Edges, chunk, place)
+    answer_list(
+        grid,
+        chunk,
+        place,
+        |axis, chunk| Ok(edge_length(grid, axis, chunk)),
+    )
 }
 
 // Where a chunk begins, on each axis.
@@ -75,7 +83,7 @@ pub fn chunk_origin<G: ChunkGrid>(
     ensures answer { Gives place.old place.new result (chunk_origin_answer (G.axes grid.now) chunk.now (length place.old)) }
     ensures by_axis { AxisByAxis (λ a. origin_answer (G.axes grid.now) a (slice_index chunk.now a)) (length (G.axes grid.now)) result place.new }
 {
-    answer_list(grid, Question::Origin, chunk, place)
+    answer_list(grid, chunk, place, |axis, chunk| grid.origin(axis, chunk))
 }
 
 // The chunk that contains the index, on each axis.
@@ -87,7 +95,12 @@ pub fn chunk_indices<G: ChunkGrid>(
     ensures answer { Gives place.old place.new result (chunk_indices_answer (G.axes grid.now) indices.now (length place.old)) }
     ensures found { Tells FoundAt (G.axes grid.now) indices.now result place.new }
 {
-    answer_list(grid, Question::Chunk, indices, place)
+    answer_list(
+        grid,
+        indices,
+        place,
+        |axis, index| Ok(grid.chunk_at(axis, index)),
+    )
 }
 
 // The index less the origin of its chunk, on each axis.
@@ -99,7 +112,12 @@ pub fn chunk_element_indices<G: ChunkGrid>(
     ensures answer { Gives place.old place.new result (chunk_element_indices_answer (G.axes grid.now) indices.now (length place.old)) }
     ensures placed { Tells PlacedAt (G.axes grid.now) indices.now result place.new }
 {
-    answer_list(grid, Question::Element, indices, place)
+    answer_list(
+        grid,
+        indices,
+        place,
+        |axis, index| Ok(element(grid, axis, index)),
+    )
 }
 
 // Where a chunk begins and where it ends, on each axis.
@@ -116,8 +134,8 @@ pub fn subset<G: ChunkGrid>(
         return Err(Fault::new(Cause::Length, Layer::Grid));
     }
     write_both(
-        &ask_each(grid, Question::Origin, chunk),
-        &ask_each(grid, Question::End, chunk),
+        gather(chunk, |axis, chunk| grid.origin(axis, chunk)),
+        gather(chunk, |axis, chunk| end(grid, axis, chunk)),
         origins,
         ends,
     )
@@ -127,15 +145,11 @@ pub fn subset<G: ChunkGrid>(
 pub fn array_indices_inbounds<G: ChunkGrid>(grid: &G, indices: &[u64]) -> bool
     ensures { result ≡ inbounds (G.axes grid.now) indices.now }
 {
-    if indices.len() != grid.dimensionality() {
-        return false;
-    }
-    for a in 0..indices.len() {
-        if !axis_inbounds(grid, a, indices[a]) {
-            return false;
-        }
-    }
-    true
+    indices.len() == grid.dimensionality()
+        && indices
+            .iter()
+            .enumerate()
+            .all(|(axis, index)| axis_inbounds(grid, axis, *index))
 }
 
 // The first chunk of a region and the number of its chunks, on each axis.
@@ -161,13 +175,14 @@ pub fn chunks_in_array_subset<G: ChunkGrid>(
         counts.fill(0);
         return Ok(Some(()));
     }
-    match beyond(start, shape) {
-        Some(fault) => Err(fault),
-        None => write_both(
-            &ask_each(grid, Question::Chunk, start),
-            &chunk_numbers(grid, start, shape),
-            firsts,
-            counts,
+    ends_fit(start, shape)?;
+    write_both(
+        gather(start, |axis, start| Ok(grid.chunk_at(axis, start))),
+        gather(
+            start,
+            |axis, start| Ok(chunk_number(grid, axis, start, shape[axis])),
         ),
-    }
+        firsts,
+        counts,
+    )
 }

@@ -1,6 +1,6 @@
-ghost use Rattle.std.specs.Prelude.{◌≡◌, ◌≤◌, length};
-ghost use Rattle.grids.specs.Making.{first_fault};
-ghost use Rattle.grids.specs.Answers.{has_zero, beyond as overflow};
+ghost use Rattle.std.specs.Prelude.{◌≡◌, ◌≤◌, length, Ok};
+ghost use Rattle.grids.specs.Making.{first_fault, unless};
+ghost use Rattle.grids.specs.Answers.{has_zero, beyond};
 
 use edges::{Cause, Fault, Layer};
 
@@ -8,28 +8,17 @@ use edges::{Cause, Fault, Layer};
 pub(crate) fn has_zero(shape: &[u64]) -> bool
     ensures { result ≡ has_zero shape.now }
 {
-    for length in shape {
-        if *length == 0 {
-            return true;
-        }
-    }
-    false
+    shape.contains(&0)
 }
 
-// The first axis where start + shape exceeds 64 bits, as a refusal.
-pub(crate) fn beyond(start: &[u64], shape: &[u64]) -> Option<Fault>
+// Refused at the first axis where start + shape exceeds 64 bits.
+pub(crate) fn ends_fit(start: &[u64], shape: &[u64]) -> Result<(), Fault>
     requires { (length start.now ≡ length shape.now) × (length shape.now ≤ 8) }
-    ensures { result ≡ first_fault (overflow start.now shape.now) (length shape.now) }
+    ensures { result ≡ unless (first_fault (beyond start.now shape.now) (length shape.now)) (Ok tt) }
 {
-    for a in 0..shape.len() {
-        match start[a].checked_add(shape[a]) {
-            Some(_) => {}
-            None => return Some(Fault {
-                cause: Cause::Overflow,
-                layer: Layer::Grid,
-                axis: a as u8,
-            }),
-        }
+    for (axis, length) in shape.iter().enumerate() {
+        let end = start[axis].checked_add(*length);
+        end.ok_or(Fault::on_axis(Cause::Overflow, Layer::Grid, axis as u8))?;
     }
-    None
+    Ok(())
 }

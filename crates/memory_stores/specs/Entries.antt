@@ -1,38 +1,38 @@
-use Rattle.std.specs.Prelude.{ℕ, zero, suc, Bool, false, cond, not, ◌&&◌, List, is_some, Some, None, Option, ◌==◌, nat_lt, slice_index_or, slice_set}
+use Rattle.std.specs.Prelude.{ℕ, Bool, false, cond, not, ◌&&◌, List, length, map, position, Some, None, Option, nat_eq, nat_lt, slice_index_or}
+use Rattle.std.specs.List.{find, range_with_len}
+use Rattle.std.specs.Option.{option_eq}
 use Rattle.memory_stores.specs.declared.directory.Entry.{Entry}
 
 -- An entry that is not used.
 abbrev pub no_entry : Entry
-no_entry = record { used = false; chunk = 0 }
+no_entry = record { chunk = None }
 
 abbrev pub entry : List Entry → ℕ → Entry
 entry es i = slice_index_or es i no_entry
 
 -- The entry is used for chunk k.
-abbrev pub names : Entry → ℕ → Bool
-names e k = e.used && e.chunk == k
+abbrev pub names : ℕ → Entry → Bool
+names k e = option_eq nat_eq e.chunk (Some k)
 
-abbrev pub or_else : Option ℕ → Option ℕ → Option ℕ
-or_else (Some n) o = Some n
-or_else None o = o
+-- The lowest slot that is used for chunk k, if there is one.
+abbrev pub slot_of : List Entry → ℕ → Option ℕ
+slot_of es k = position (names k) es
 
--- The lowest slot below n that is used for chunk k, if there is one.
-unfoldable pub slot_of : List Entry → ℕ → ℕ → Option ℕ
-slot_of es zero k = None
-slot_of es (suc n) k = or_else (slot_of es n k) (cond (names (entry es n) k) (Some n) None)
+-- Slot i, used for this chunk or for none, holds it: the chunk is below the limit, and no lower slot is used for it.
+abbrev pub holds : List Entry → ℕ → ℕ → Option ℕ → Bool
+holds es limit i (Some k) = nat_lt k limit && option_eq nat_eq (slot_of es k) (Some i)
+holds es limit i None = false
 
--- Slot i holds a chunk: it is used for one below the limit that no lower slot is used for.
-unfoldable pub busy : List Entry → ℕ → ℕ → Bool
-busy es limit i = (entry es i).used && (nat_lt (entry es i).chunk limit && not (is_some (slot_of es i (entry es i).chunk)))
+abbrev pub busy : List Entry → ℕ → ℕ → Bool
+busy es limit i = holds es limit i (entry es i).chunk
 
--- The lowest slot below n that holds no chunk, if there is one.
-unfoldable pub vacant : List Entry → ℕ → ℕ → Option ℕ
-vacant es limit zero = None
-vacant es limit (suc n) = or_else (vacant es limit n) (cond (busy es limit n) None (Some n))
+-- The lowest slot that holds no chunk, if there is one.
+abbrev pub vacant : List Entry → ℕ → Option ℕ
+vacant es limit = find (λ i. not (busy es limit i)) (range_with_len 0 (length es))
 
--- No slot below n is used for chunk c any more.
-unfoldable pub released : ℕ → ℕ → List Entry → List Entry
-released c zero es = es
-released c (suc n) es =
-    let rs : List Entry = released c n es in
-    cond (names (entry rs n) c) (slice_set rs n (record { used = false; chunk = (entry rs n).chunk })) rs
+-- No entry is used for chunk k any more.
+abbrev pub let_go : ℕ → Entry → Entry
+let_go k e = cond (names k e) no_entry e
+
+abbrev pub released : ℕ → List Entry → List Entry
+released k es = map (let_go k) es

@@ -1,8 +1,6 @@
-use Rattle.std.specs.Prelude.{ℕ, ◌*◌, ◌/◌, ◌≤◌, min, cond, Ok, Err, Result, ◌==◌, nat_lt}
+use Rattle.std.specs.Prelude.{ℕ, ◌*◌, ◌/◌, ◌≤◌, min, cond, ◌==◌}
 use Rattle.std.proofs.Common.{arith, div-mul-le_self, le_trans, mul-le-mul_right}
 use Rattle.std.proofs.lemmas.Bool.{cond_both}
-use Rattle.edges.specs.declared.fault.Fault.{Fault}
-use Rattle.stores.specs.Held.{out_of_range}
 
 -- At most 65,536.
 unfoldable pub capped : ℕ → ℕ
@@ -27,10 +25,6 @@ pool_limit w l = cond (w == 0) 0 (capped l)
 -- The slots of a pool of n values, at most 256.
 unfoldable pub pool_slots : ℕ → ℕ → ℕ
 pool_slots w n = min 256 (whole_widths (capped w) n)
-
--- Refusal 11 unless a number is below its bound.
-abbrev pub range_answer : ℕ → ℕ → Result (Unit {0}) Fault
-range_answer n bound = cond (nat_lt n bound) (Ok tt) (Err out_of_range)
 
 pub capped_small : (n : ℕ) → capped n ≤ 65536
 unfolding capped

@@ -1,4 +1,5 @@
-use Rattle.std.specs.Prelude.{◌≡◌, ℕ, zero, suc, ◌+◌, ◌*◌, ◌≤◌, Bool, true, false, cond, ◌&&◌, List, nat_lt, slice_index_or, slice_set, refl}
+use Rattle.std.specs.Prelude.{◌≡◌, ℕ, ◌+◌, ◌*◌, ◌≤◌, Bool, true, false, cond, ◌&&◌, List, nat_lt, slice_index_or, refl}
+use Rattle.std.specs.declared.ops.Range.{Range}
 use Rattle.std.proofs.Common.{arith}
 use Rattle.std.proofs.lemmas.Bool.{le-ltb}
 use Rattle.stores.specs.Counts.{count}
@@ -15,10 +16,10 @@ laid l w s v marked slot xs = record {
   value = λ k p. cond (nat_lt k l && marked k && nat_lt p w) (slice_index_or xs (slot k * w + p) v) v;
 }
 
--- `width` values from `start` on are v, the rest as it was
-unfoldable pub cleared : {E : Type 0} → E → ℕ → ℕ → List E → List E
-cleared v start zero xs = xs
-cleared v start (suc width) xs = slice_set (cleared v start width xs) (start + width) v
+-- Row `slot` of values in rows of width w.
+pub record IsRow (slot w : ℕ) (r : Range ℕ) : Type 0 where
+  pub start : r.start ≡ slot * w
+  pub end : r.end ≡ slot * w + w
 
 module _ {E : Type 0} (l w s : ℕ) (v : E) (marked : ℕ → Bool) (slot : ℕ → ℕ) (xs : List E) where
   pub laid_sound : l ≤ 65536 → w ≤ 65536 → s ≤ 65536 → count (λ k. nat_lt k l && marked k) l ≤ s → Sound (laid l w s v marked slot xs)

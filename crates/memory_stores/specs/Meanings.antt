@@ -1,9 +1,13 @@
-use Rattle.std.specs.Prelude.{ℕ, Bool, true, false, List, ◌++◌, length, drop, replicate, is_some, slice_index_or}
+use Rattle.std.specs.Prelude.{ℕ, ◌==◌, nat_lt, Bool, true, false, cond, List, ◌++◌, length, take, drop, replicate, is_some, Ok, Err, Result, slice_index_or}
 use Rattle.std.proofs.Common.{arith}
+use Rattle.std.proofs.lemmas.List.{length-take}
 use Rattle.std.specs.Option.{unwrap_or}
+use Rattle.edges.specs.declared.fault.Fault.{Fault}
 use Rattle.stores.specs.Counts.{count_le}
-use Rattle.stores.specs.Held.{Held, Sound, empty}
+use Rattle.stores.specs.Held.{Held, Sound, empty, free, no_slot}
 use Rattle.memory_stores.specs.declared.directory.Entry.{Entry}
+use Rattle.memory_stores.specs.declared.flat.Flat.{Flat}
+use Rattle.memory_stores.specs.declared.pool.Pool.{Pool}
 use Rattle.memory_stores.specs.Entries.{slot_of, busy}
 use Rattle.memory_stores.specs.Extents.{capped, archive_limit, flat_limit, pool_limit, pool_slots, capped_small, archive_small, flat_small, pool_limit_small, pool_slots_small}
 use Rattle.memory_stores.specs.Laid.{laid, laid_sound}
@@ -23,9 +27,34 @@ flat_held v xs ms w =
 abbrev pub pool_held : {E : Type 0} → E → List E → List Entry → ℕ → ℕ → Held E
 pool_held v xs es w l =
     laid (pool_limit w l) (capped w) (pool_slots w (length xs)) v
-    (λ k. is_some (slot_of es (pool_slots w (length xs)) k))
-    (λ k. unwrap_or (slot_of es (pool_slots w (length xs)) k) 0)
+    (λ k. is_some (slot_of (take (pool_slots w (length xs)) es) k))
+    (λ k. unwrap_or (slot_of (take (pool_slots w (length xs)) es) k) 0)
     xs
+
+abbrev pub flat_means : {E : Type 0} → E → Flat E → Held E
+flat_means v s = flat_held v s.values.now s.marks.now s.width
+
+-- The entries of a pool's slots, and what the pool means.
+abbrev pub slots_in : {E : Type 0} → Pool E → List Entry
+slots_in s = take (pool_slots s.width (length s.values.now)) s.entries
+
+abbrev pub pool_means : {E : Type 0} → E → Pool E → Held E
+pool_means v s = pool_held v s.values.now s.entries s.width s.limit
+
+-- Chunk c is present. All else is as it was: where it was absent, it still reads as fill.
+abbrev pub with_chunk : {E : Type 0} → Held E → ℕ → Held E
+with_chunk h c = record {
+  limit = h.limit;
+  width = h.width;
+  slots = h.slots;
+  fill = h.fill;
+  present = λ k. cond (k == c) true (h.present k);
+  value = h.value;
+}
+
+-- Refusal 9 where a chunk is absent and no slot is free.
+abbrev pub room_answer : {E : Type 0} → Held E → ℕ → Result (Unit {0}) Fault
+room_answer h c = cond (h.present c) (Ok tt) (cond (nat_lt 0 (free h)) (Ok tt) (Err no_slot))
 
 -- A flat store as it is made, from n values and m marks, and a pool, from n values and a limit: no chunk is present.
 abbrev pub new_flat : {E : Type 0} → E → ℕ → ℕ → ℕ → Held E
@@ -52,8 +81,9 @@ flat_sound v xs ms w =
 pub pool_sound : {E : Type 0} (v : E) (xs : List E) (es : List Entry) (w l : ℕ) → Sound (pool_held v xs es w l)
 pool_sound v xs es w l =
     let n : ℕ = pool_slots w (length xs) in
-    laid_sound (pool_limit w l) (capped w) n v (λ k. is_some (slot_of es n k)) (λ k. unwrap_or (slot_of es n k) 0) xs
+    let ts : List Entry = take n es in
+    laid_sound (pool_limit w l) (capped w) n v (λ k. is_some (slot_of ts k)) (λ k. unwrap_or (slot_of ts k) 0) xs
     (pool_limit_small w l)
     (capped_small w)
     (omega (arith, pool_slots_small w (length xs)))
-    (omega (arith, named_count es n (pool_limit w l), count_le (busy es (pool_limit w l)) n))
+    (omega (arith, length-take n es, named_count ts (pool_limit w l), count_le (busy ts (pool_limit w l)) (length ts)))

@@ -1,10 +1,10 @@
 ghost use Rattle.std.specs.Prelude.{◌≡◌};
 ghost use Rattle.memory_stores.specs.Meanings.{archive_held, archive_sound};
 
-use crate::extent::{capped, in_range, whole_chunks};
-use crate::row::value_at;
+use crate::extent::{capped, whole_chunks};
+use crate::row::row;
 use edges::Fault;
-use stores::{Element, ReadStore};
+use stores::{Element, ReadStore, in_range, in_store};
 
 // A store for reading only, over values that are held for reading: chunk after chunk, each
 // present.
@@ -56,8 +56,7 @@ impl<'a, E: Element> ReadStore for Archive<'a, E> {
 
     fn get(&self, chunk: u64, place: u64) -> Result<E, Fault> {
         let width = self.width();
-        in_range(chunk, self.limit())?;
-        in_range(place, width)?;
-        Ok(value_at(self.values, chunk, width, place))
+        in_store(chunk, self.limit(), place, width)?;
+        Ok(self.values[row(chunk, width)][place as usize])
     }
 }

@@ -1,72 +1,55 @@
-ghost use Rattle.std.specs.Prelude.{◌≡◌, ◌<◌, ◌≤◌};
-ghost use Rattle.stores.specs.Counts.{count};
+ghost use Rattle.std.specs.Prelude.{◌≡◌, ◌<◌, length, count_by};
+ghost use Rattle.std.specs.List.{range_with_len};
 ghost use Rattle.memory_stores.specs.Entries.{slot_of, busy, vacant};
 
-// What a slot of a pool is used for.
+// The chunk that a slot of a pool is used for, if there is one.
 #[derive(Clone, Copy)]
 pub(crate) struct Entry {
-    pub(crate) used: bool,
-    pub(crate) chunk: u64,
+    pub(crate) chunk: Option<u64>,
 }
 
-// One entry for each slot. A slot holds a chunk below the limit if it is the lowest that is used
-// for it.
-#[derive(Drop)]
-pub(crate) struct Directory {
-    pub(crate) entries: [Entry; 256],
+// An entry for each slot of a pool, and the pool's limit. A slot holds a chunk below the limit if
+// it is the lowest that is used for it.
+#[derive(Clone, Copy)]
+pub(crate) struct Directory<'a> {
+    pub(crate) entries: &'a [Entry],
+    pub(crate) limit: u64,
 }
 
-impl Directory {
+impl<'a> Directory<'a> {
     // The lowest slot that is used for a chunk.
-    pub(crate) fn slot_of(&self, slots: usize, chunk: u64) -> Option<usize>
-        requires { slots ≤ 256 }
-        ensures { result ≡ slot_of self.now.entries slots chunk }
+    pub(crate) fn slot_of(&self, chunk: u64) -> Option<usize>
+        ensures { result ≡ slot_of self.now.entries.now chunk }
     {
-        for slot in 0..slots {
-            let entry = self.entries[slot];
-            if entry.used && entry.chunk == chunk {
-                return Some(slot);
-            }
-        }
-        None
+        self.entries
+            .iter()
+            .position(|entry| entry.chunk == Some(chunk))
     }
 
     // Whether a slot holds a chunk.
-    fn busy(&self, slot: usize, limit: u64) -> bool
-        requires { slot < 256 }
-        ensures { result ≡ busy self.now.entries limit slot }
+    fn busy(&self, slot: usize) -> bool
+        requires { slot < length self.now.entries.now }
+        ensures { result ≡ busy self.now.entries.now self.now.limit slot }
     {
-        let entry = self.entries[slot];
-        if !entry.used || entry.chunk >= limit {
-            return false;
+        match self.entries[slot].chunk {
+            Some(chunk) => chunk < self.limit && self.slot_of(chunk) == Some(slot),
+            None => false,
         }
-        self.slot_of(slot, entry.chunk).is_none()
     }
 
     // The lowest slot that holds no chunk.
-    pub(crate) fn vacant(&self, slots: usize, limit: u64) -> Option<usize>
-        requires { slots ≤ 256 }
-        ensures { result ≡ vacant self.now.entries limit slots }
+    pub(crate) fn vacant(&self) -> Option<usize>
+        ensures { result ≡ vacant self.now.entries.now self.now.limit }
     {
-        for slot in 0..slots {
-            if !self.busy(slot, limit) {
-                return Some(slot);
-            }
-        }
-        None
+        (0..self.entries.len()).find(|slot| !self.busy(*slot))
     }
 
     // The number of slots that hold a chunk.
-    pub(crate) fn taken(&self, slots: usize, limit: u64) -> u64
-        requires { slots ≤ 256 }
-        ensures { result ≡ count (busy self.now.entries limit) slots }
+    pub(crate) fn taken(&self) -> u64
+        ensures { result ≡ count_by (busy self.now.entries.now self.now.limit) (range_with_len 0 (length self.now.entries.now)) }
     {
-        let mut taken = 0;
-        for slot in 0..slots {
-            if self.busy(slot, limit) {
-                taken += 1;
-            }
-        }
-        taken
+        (0..self.entries.len())
+            .filter(|slot| self.busy(*slot))
+            .count() as u64
     }
 }

@@ -1,7 +1,5 @@
-ghost use Rattle.std.specs.Prelude.{◌≡◌, ◌<◌, Ok};
-ghost use Rattle.memory_stores.specs.Extents.{capped, whole_widths, archive_limit, range_answer};
-
-use edges::{Cause, Fault, Layer};
+ghost use Rattle.std.specs.Prelude.{◌≡◌};
+ghost use Rattle.memory_stores.specs.Extents.{capped, whole_widths, archive_limit};
 
 // The most that a limit, a width or a number of slots is.
 const MOST: u64 = 65536;
@@ -24,15 +22,4 @@ pub(crate) fn whole_chunks(width: u64, values: usize) -> u64
     ensures { result ≡ archive_limit width values }
 {
     capped(whole_widths(capped(width), values))
-}
-
-// Refusal 11 unless a number is below its bound.
-pub(crate) fn in_range(number: u64, bound: u64) -> Result<(), Fault>
-    ensures answer { result ≡ range_answer number bound }
-    ensures below { result ≡ Ok tt → number < bound }
-{
-    if number >= bound {
-        return Err(Fault::new(Cause::Range, Layer::Store));
-    }
-    Ok(())
 }

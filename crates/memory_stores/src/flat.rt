@@ -1,14 +1,16 @@
-ghost use Rattle.std.specs.Prelude.{◌≡◌, length};
-ghost use Rattle.memory_stores.specs.Extents.{flat_limit};
-ghost use Rattle.memory_stores.specs.Meanings.{flat_held, flat_sound, new_flat, marks_cleared};
+ghost use Rattle.std.specs.Prelude.{◌≡◌, ◌<◌, ◌≤◌, length};
+ghost use Rattle.memory_stores.specs.Extents.{capped, flat_limit};
+ghost use Rattle.memory_stores.specs.Laid.{IsRow};
+ghost use Rattle.memory_stores.specs.Meanings.{flat_means, flat_sound, new_flat, marks_cleared, with_chunk};
 
-use crate::extent::{capped, in_range, whole_chunks};
-use crate::row::{clear, set_at, value_at};
+use crate::extent::{capped, whole_chunks};
+use crate::row::{clear, row};
 use edges::Fault;
-use stores::{Element, ReadStore, WriteStore};
+use std::ops::Range;
+use stores::{Element, ReadStore, WriteStore, in_range, in_store};
 
 // A store with a row of values and a mark for each chunk: the chunk is present where the mark is
-// set.
+// set. Both lie in memory that the caller supplies, so they are two slices.
 #[derive(Drop)]
 pub struct Flat<'a, E> {
     values: &'a mut [E],
@@ -19,19 +21,39 @@ pub struct Flat<'a, E> {
 impl<'a, E: Element> Flat<'a, E> {
     // The store over this memory, with no chunk present.
     pub fn new(values: &'a mut [E], marks: &'a mut [bool], width: u64) -> Self
-        ensures held { flat_held E.Element.blank result.values.now result.marks.now result.width ≡ new_flat E.Element.blank (length values.old) (length marks.old) width }
+        ensures held { flat_means E.Element.blank result ≡ new_flat E.Element.blank (length values.old) (length marks.old) width }
         ensures values { result.values.now ≡ values.old }
         ensures marks { result.marks.now ≡ marks_cleared (flat_limit width (length values.old) (length marks.old)) marks.old }
     {
         let limit = flat_limit(width, values.len(), marks.len());
-        for mark in 0..limit as usize {
-            marks[mark] = false;
-        }
+        marks[..limit as usize].fill(false);
         Flat {
             values,
             marks,
             width,
         }
+    }
+
+    // Where the values of a chunk lie.
+    fn places(&self, chunk: u64) -> Range<usize>
+        requires { chunk < (flat_means E.Element.blank self.now).limit }
+        ensures row { IsRow chunk (capped self.now.width) result }
+        ensures within { result.end ≤ length self.now.values.now }
+    {
+        row(chunk, self.width())
+    }
+
+    // Makes a chunk present. Where it was absent, every value of it is put to fill.
+    fn make_present(&mut self, chunk: u64)
+        requires { chunk < (flat_means E.Element.blank self.old).limit }
+        ensures { flat_means E.Element.blank self.new ≡ with_chunk (flat_means E.Element.blank self.old) chunk }
+    {
+        if self.marks[chunk as usize] {
+            return;
+        }
+        self.marks[chunk as usize] = true;
+        let places = self.places(chunk);
+        clear(&mut self.values[places]);
     }
 }
 
@@ -45,7 +67,7 @@ fn flat_limit(width: u64, values: usize, marks: usize) -> u64
 impl<'a, E: Element> ReadStore for Flat<'a, E> {
     type Item = E;
 
-    ghost held = { λ s. flat_held E.Element.blank s.values.now s.marks.now s.width };
+    ghost held = { λ s. flat_means E.Element.blank s };
 
     ghost sound = { λ s. flat_sound E.Element.blank s.values.now s.marks.now s.width };
 
@@ -67,13 +89,7 @@ impl<'a, E: Element> ReadStore for Flat<'a, E> {
 
     fn free(&self) -> u64 {
         let limit = self.limit() as usize;
-        let mut free = 0;
-        for chunk in 0..limit {
-            if !self.marks[chunk] {
-                free += 1;
-            }
-        }
-        free
+        self.marks[..limit].iter().filter(|mark| !**mark).count() as u64
     }
 
     fn present(&self, chunk: u64) -> Result<bool, Fault> {
@@ -82,11 +98,9 @@ impl<'a, E: Element> ReadStore for Flat<'a, E> {
     }
 
     fn get(&self, chunk: u64, place: u64) -> Result<E, Fault> {
-        let width = self.width();
-        in_range(chunk, self.limit())?;
-        in_range(place, width)?;
+        in_store(chunk, self.limit(), place, self.width())?;
         if self.marks[chunk as usize] {
-            Ok(value_at(self.values, chunk, width, place))
+            Ok(self.values[self.places(chunk)][place as usize])
         } else {
             Ok(E::fill())
         }
@@ -95,20 +109,15 @@ impl<'a, E: Element> ReadStore for Flat<'a, E> {
 
 impl<'a, E: Element> WriteStore for Flat<'a, E> {
     fn put(&mut self, chunk: u64, place: u64, value: E) -> Result<(), Fault> {
-        let width = self.width();
-        in_range(chunk, self.limit())?;
-        in_range(place, width)?;
-        if !self.marks[chunk as usize] {
-            clear(self.values, chunk, width);
-            self.marks[chunk as usize] = true;
-        }
-        set_at(self.values, chunk, width, place, value);
+        in_store(chunk, self.limit(), place, self.width())?;
+        self.make_present(chunk);
+        let places = self.places(chunk);
+        self.values[places][place as usize] = value;
         Ok(())
     }
 
     fn erase(&mut self, chunk: u64) -> Result<bool, Fault> {
-        in_range(chunk, self.limit())?;
-        let was = self.marks[chunk as usize];
+        let was = self.present(chunk)?;
         self.marks[chunk as usize] = false;
         Ok(was)
     }

@@ -1,33 +1,21 @@
-ghost use Rattle.std.specs.Prelude.{◌≡◌, ◌+◌, ◌*◌, ◌<◌, ◌≤◌, length, set, slice_index_or, slice_set};
-ghost use Rattle.memory_stores.specs.Laid.{cleared};
+ghost use Rattle.std.specs.Prelude.{◌≡◌, ◌+◌, ◌*◌, ◌^◌, ◌<◌, length, replicate};
+ghost use Rattle.memory_stores.specs.Laid.{IsRow};
 
+use std::ops::Range;
 use stores::Element;
 
-// Rows of values: row `slot` begins at `slot` widths. One value is read, one is set, or a row is
-// put to fill.
-pub(crate) fn value_at<E: Element>(values: &[E], slot: u64, width: u64, place: u64) -> E
-    requires row { slot * width + width ≤ length values.now }
-    requires place { place < width }
-    ensures { result ≡ slice_index_or values.now (slot * width + place) E.Element.blank }
+// The places of a row among values that lie in rows of one width.
+pub(crate) fn row(slot: u64, width: u64) -> Range<usize>
+    requires { slot * width + width < 2 ^ 64 }
+    ensures { IsRow slot width result }
 {
-    values[(slot * width + place) as usize]
-}
-
-pub(crate) fn set_at<E: Element>(values: &mut [E], slot: u64, width: u64, place: u64, value: E)
-    requires row { slot * width + width ≤ length values.old }
-    requires place { place < width }
-    ensures { values.new ≡ slice_set values.old (slot * width + place) value }
-{
-    values[(slot * width + place) as usize] = value;
-}
-
-pub(crate) fn clear<E: Element>(values: &mut [E], slot: u64, width: u64)
-    requires row { slot * width + width ≤ length values.old }
-    ensures { values.new ≡ cleared E.Element.blank (slot * width) width values.old }
-{
-    let fill = E::fill();
     let start = (slot * width) as usize;
-    for k in 0..width as usize {
-        values[start + k] = fill;
-    }
+    start..start + width as usize
+}
+
+// Puts a row to fill.
+pub(crate) fn clear<E: Element>(row: &mut [E])
+    ensures { row.new ≡ replicate (length row.old) E.Element.blank }
+{
+    row.fill_with(|| E::fill());
 }

@@ -1,14 +1,17 @@
-use Rattle.std.proofs.Common.{◌≡◌, ℕ, ◌+◌, ◌<◌, ◌≤◌, Bool, true, false, List, [], ◌∷◌, ◌++◌, length, get_or, drop, Some, None, codes, Option, sym, refl, ap, ◌∙◌, arith, Bor}
+use Rattle.std.proofs.Common.{◌≡◌, ℕ, ◌+◌, ◌<◌, ◌≤◌, Bool, true, false, List, [], ◌∷◌, ◌++◌, length, get_or, drop, Some, None, Ok, Err, codes, Option, Result, subst, sym, refl, ap, ◌∙◌, arith, Bor}
 use Rattle.std.specs.Option.{option_map}
 use Rattle.std.specs.Str.Iter.{LacksByte}
 use Rattle.std.specs.Str.{bytes_eq}
 use Rattle.std.proofs.lemmas.Slice.Eq.{bytes_eq-Decides}
 use Rattle.std.proofs.lemmas.Str.Pattern.{IsSplitOnceResult, split_parts}
-use Rattle.std.proofs.lemmas.Bool.{cond-true, cond-false}
+use Rattle.std.proofs.lemmas.Bool.{cond-false}
 use Rattle.std.proofs.lemmas.List.{append_assoc, append-nil, drop_more, at_drop_all}
 use Rattle.edges.specs.declared.table.Run.TheVariants.{Single}
+use Rattle.notation.specs.declared.error.ListError.{ListError}
+use Rattle.notation.specs.declared.error.ListError.TheVariants.{NotAList, OutOfMemory}
+use Rattle.std.specs.Result.{IsErrAnd}
 use Rattle.notation.specs.Texts.{before, after, parts_at, number_in, texts}
-use Rattle.notation.specs.Lists.{onto, each_in, list_in, repeated_in, run_with, run_in}
+use Rattle.notation.specs.Lists.{onto, each_in, list_in, repeated_in, run_with, run_in, Reads}
 use Rattle.notation.proofs.TextLaws.{before_mark, after_mark, after_none}
 use Rattle.notation.proofs.WordLaws.{no_text}
 
@@ -58,10 +61,6 @@ module _ {A : Type 0} (read : List ℕ → Option A) (words : List (Bor (List �
   each_all l = ap Some (sym (append-nil done)) ∙ ap (with_done done) (sym (at_drop_all (λ xs. each_in read (texts xs)) words i l)) ∙ p
 
 -- the text of a list
-pub list_dash : {A : Type 0} (read : List ℕ → Option A) (t : List ℕ) → t ≡ codes "-" → Some [] ≡ list_in read t
-unfolding list_in
-list_dash read t e = sym (cond-true (bytes_eq t (codes "-")) _ _ ((bytes_eq-Decides t (codes "-")).1 e))
-
 pub list_items : {A : Type 0} (read : List ℕ → Option A) (t : List ℕ) → (t ≡ codes "-" → ⊥) → each_in read (parts_at 44 t) ≡ list_in read t
 unfolding list_in
 list_items read t n = sym (cond-false (bytes_eq t (codes "-")) _ _ (not_same (bytes_eq t (codes "-")) refl)) where
@@ -69,6 +68,9 @@ list_items read t n = sym (cond-false (bytes_eq t (codes "-")) _ _ (not_same (by
   not_same true q = absurd (n ((bytes_eq-Decides t (codes "-")).0 q))
   not_same false q = refl
 
-pub nothing_done : {A : Type 0} (o : Option (List A)) → with_done [] o ≡ o
-nothing_done None = refl
-nothing_done (Some xs) = refl
+-- what is not read within another text is not read in that
+pub still_unread : {A B C D : Type 0} (held : A → B) (held' : C → D) (e : ListError) (o : Option B) (o' : Option D) (r : Result C ListError) → IsErrAnd r (λ d. d ≡ e)
+    → Reads held (Err e) o → (None ≡ o → None ≡ o') → Reads held' r o'
+still_unread held held' e o o' (Ok x) i h k = absurd i
+still_unread held held' NotAList o o' (Err d) i h k = subst (λ x. Reads held' (Err x) o') (sym i) (k h)
+still_unread held held' (OutOfMemory e) o o' (Err d) i h k = subst (λ x. Reads held' (Err x) o') (sym i) tt

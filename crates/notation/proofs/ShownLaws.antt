@@ -86,23 +86,23 @@ module _ {A : Type 0} (text : A → List ℕ) (m : ℕ) (ascii : encode m ≡ m 
   shown_text [] = refl
   shown_text (x ∷ xs) = ap (option_append (Some (text x))) (more_text xs) ∙ ap Some (sym (rejoined_tail m (text x) (map text xs)))
 
+  -- the same of a mark and items that are known to be these
+  listed_text : (n : ℕ) (xs ys : List A) → n ≡ m → xs ≡ ys → list_shown (λ x. Some (text x)) n xs ≡ Some (list_text m (map text ys))
+  listed_text n xs ys e q = ap (λ k. list_shown (λ x. Some (text x)) k xs) e ∙ ap (list_shown (λ x. Some (text x)) m) q ∙ shown_text ys
+
   -- a number, a name and the list
-  pub counted_text : (n : ℕ) (name : List ℕ) (xs ys : List A) → n ≡ length ys → xs ≡ ys
-      → option_append (Some (decimal n)) (option_append (Some name) (list_shown (λ x. Some (text x)) m xs)) ≡ Some (decimal (length ys) ++ (name ++ list_text m (map text ys)))
-  counted_text n name xs ys e q =
-      ap (λ zs. option_append (Some (decimal n)) (option_append (Some name) (list_shown (λ x. Some (text x)) m zs))) q
-      ∙ ap (λ o. option_append (Some (decimal n)) (option_append (Some name) o)) (shown_text ys)
-      ∙ ap (λ k. Some (decimal k ++ (name ++ list_text m (map text ys)))) e
+  pub counted_text : (k : ℕ) (name : List ℕ) (n : ℕ) (xs ys : List A) → n ≡ m → xs ≡ ys → k ≡ length ys
+      → option_append (Some (decimal k)) (option_append (Some name) (list_shown (λ x. Some (text x)) n xs)) ≡ Some (decimal (length ys) ++ (name ++ list_text m (map text ys)))
+  counted_text k name n xs ys e q h =
+      ap (λ o. option_append (Some (decimal k)) (option_append (Some name) o)) (listed_text n xs ys e q) ∙ ap (λ c. Some (decimal c ++ (name ++ list_text m (map text ys)))) h
 
   -- a name and a list, and with another name and list after it
-  pub named_text : (name : List ℕ) (xs ys : List A) → xs ≡ ys → option_append (Some name) (list_shown (λ x. Some (text x)) m xs) ≡ Some (name ++ list_text m (map text ys))
-  named_text name xs ys q =
-      ap (λ zs. option_append (Some name) (list_shown (λ x. Some (text x)) m zs)) q ∙ ap (option_append (Some name)) (shown_text ys)
+  pub named_text : (name : List ℕ) (n : ℕ) (xs ys : List A) → n ≡ m → xs ≡ ys → option_append (Some name) (list_shown (λ x. Some (text x)) n xs) ≡ Some (name ++ list_text m (map text ys))
+  named_text name n xs ys e q = ap (option_append (Some name)) (listed_text n xs ys e q)
 
-  pub paired_text : (name mid : List ℕ) (xs xs' ys ys' : List A) → xs ≡ ys → xs' ≡ ys'
-      → option_append (Some name) (option_append (list_shown (λ x. Some (text x)) m xs) (option_append (Some mid) (list_shown (λ x. Some (text x)) m xs')))
+  pub paired_text : (name mid : List ℕ) (n n' : ℕ) (xs xs' ys ys' : List A) → n ≡ m → n' ≡ m → xs ≡ ys → xs' ≡ ys'
+      → option_append (Some name) (option_append (list_shown (λ x. Some (text x)) n xs) (option_append (Some mid) (list_shown (λ x. Some (text x)) n' xs')))
       ≡ Some (name ++ (list_text m (map text ys) ++ (mid ++ list_text m (map text ys'))))
-  paired_text name mid xs xs' ys ys' q q' =
-      ap (λ o. option_append (Some name) (option_append (list_shown (λ x. Some (text x)) m xs) o)) (named_text mid xs' ys' q')
-      ∙ ap (λ zs. option_append (Some name) (option_append (list_shown (λ x. Some (text x)) m zs) (Some (mid ++ list_text m (map text ys'))))) q
-      ∙ ap (λ o. option_append (Some name) (option_append o (Some (mid ++ list_text m (map text ys'))))) (shown_text ys)
+  paired_text name mid n n' xs xs' ys ys' e e' q q' =
+      ap (λ o. option_append (Some name) (option_append (list_shown (λ x. Some (text x)) n xs) o)) (named_text mid n' xs' ys' e' q')
+      ∙ ap (λ o. option_append (Some name) (option_append o (Some (mid ++ list_text m (map text ys'))))) (listed_text n xs ys e q)

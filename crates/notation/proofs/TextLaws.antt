@@ -14,11 +14,6 @@ lacks_tail m c cs l = λ k h. l (suc k) (omega arith)
 
 -- a text without the mark
 module _ (m : ℕ) where
-  pub before_none : (xs : List ℕ) → LacksByte m xs → before m xs ≡ xs
-  unfolding before
-  before_none [] l = refl
-  before_none (c ∷ cs) l = cond-false (eqb c m) _ _ (lacks_head m c cs l) ∙ ap (λ ys. c ∷ ys) (before_none cs (lacks_tail m c cs l))
-
   pub after_none : (xs : List ℕ) → LacksByte m xs → after m xs ≡ None
   unfolding after
   after_none [] l = refl

@@ -1,12 +1,12 @@
-use Rattle.std.proofs.Common.{◌≡◌, ℕ, ◌+◌, ◌^◌, ◌<◌, ◌≤◌, Bool, true, false, cond, ◌&&◌, ltb, List, [], ◌∷◌, ◌++◌, length, get_or, drop, Some, None, Ok, Err, Result, sym, refl, ap, ◌∙◌, subst, arith, Bor}
+use Rattle.std.proofs.Common.{◌≡◌, ℕ, ◌^◌, ◌<◌, Bool, true, false, cond, ◌&&◌, not, eqb, filter, ltb, List, [], ◌∷◌, ◌++◌, length, get_or, Some, None, Ok, Err, Result, sym, refl, ap, ◌∙◌, subst, arith, Bor}
+use Rattle.std.specs.Bool.{then_some}
+use Rattle.std.specs.Option.{option_map}
 use Rattle.std.specs.Result.{OkIff, result_ok}
 use Rattle.std.specs.Str.Iter.{LacksByte}
 use Rattle.std.specs.Str.Parse.{digits_value, ParsesUnsigned}
 use Rattle.std.specs.Str.{all_ascii_digits, bytes_eq}
-use Rattle.std.proofs.lemmas.Slice.Eq.{bytes_eq-Decides}
-use Rattle.std.proofs.lemmas.List.{append_assoc, append-nil, drop_more, at_drop_all}
 use Rattle.std.proofs.lemmas.Str.Parse.{IsNumeralModel, numerals_by_value, tells_all_ascii_digits, parse_plain}
-use Rattle.std.proofs.lemmas.Bool.{cond-true, lt-ltb, ltb-true, and_parts, and_from}
+use Rattle.std.proofs.lemmas.Bool.{cond-true, ne_eqb, lt-ltb, ltb-true, and_parts, and_from}
 use Rattle.notation.specs.Texts.{before, after, filled, texts, number_in, field_in}
 use Rattle.notation.proofs.TextLaws.{before_mark, after_mark, after_none}
 
@@ -14,32 +14,18 @@ abbrev pub no_text : Bor (List ℕ)
 no_text = record { ref_ptr = (0, 0); now = [] }
 
 -- the words among the parts
-filled_empty : (p : List ℕ) (ps : List (List ℕ)) → length p ≡ 0 → filled (p ∷ ps) ≡ filled ps
+pub filled_is : (xs : List (Bor (List ℕ))) → texts (filter (λ x. not (eqb (length x.now) 0)) xs) ≡ filled (texts xs)
 unfolding filled
-filled_empty [] ps e = refl
-filled_empty (c ∷ p) ps e = absurd (let n : ⊥ = omega arith in n)
+filled_is [] = refl
+filled_is (x ∷ xs) = go x.now refl (filled_is xs) where
+  rest : List (Bor (List ℕ))
+  rest = filter (λ y. not (eqb (length y.now) 0)) xs
 
-filled_some : (p : List ℕ) (ps : List (List ℕ)) → (length p ≡ 0 → ⊥) → filled (p ∷ ps) ≡ p ∷ filled ps
-unfolding filled
-filled_some [] ps e = absurd (e refl)
-filled_some (c ∷ p) ps e = refl
-
-module _ (parts : List (Bor (List ℕ))) (i : ℕ) (done : List (List ℕ)) (p : done ++ filled (texts (drop i parts)) ≡ filled (texts parts)) where
-  module _ (l : i < length parts) where
-    next_part : filled (texts (drop i parts)) ≡ filled ((get_or parts i no_text).now ∷ texts (drop (i + 1) parts))
-    next_part = ap (λ xs. filled (texts xs)) (drop_more parts i no_text l)
-
-    pub filled_skip : length (get_or parts i no_text).now ≡ 0 → done ++ filled (texts (drop (i + 1) parts)) ≡ filled (texts parts)
-    filled_skip e = ap (λ xs. done ++ xs) (sym (next_part ∙ filled_empty _ _ e)) ∙ p
-
-    pub filled_more : (length (get_or parts i no_text).now ≡ 0 → ⊥) → (done ++ (get_or parts i no_text).now ∷ []) ++ filled (texts (drop (i + 1) parts)) ≡ filled (texts parts)
-    filled_more e =
-        append_assoc done ((get_or parts i no_text).now ∷ []) (filled (texts (drop (i + 1) parts)))
-        ∙ ap (λ xs. done ++ xs) (sym (next_part ∙ filled_some _ _ e)) ∙ p
-
-  pub filled_all : length parts ≤ i → done ≡ filled (texts parts)
-  unfolding filled
-  filled_all l = sym (append-nil done) ∙ ap (λ xs. done ++ xs) (sym (at_drop_all (λ xs. filled (texts xs)) parts i l)) ∙ p
+  go : (t : List ℕ) → x.now ≡ t → texts rest ≡ filled (texts xs) → texts (cond (not (eqb (length t) 0)) (x ∷ rest) rest) ≡ filled (t ∷ texts xs)
+  go [] e h = h
+  go (c ∷ t) e h =
+      ap texts (cond-true (not (eqb (length (c ∷ t)) 0)) (x ∷ rest) rest (ap not (ne_eqb (length (c ∷ t)) 0 (λ z. let n : ⊥ = omega arith in n))))
+      ∙ ap (λ u. u ∷ texts rest) e ∙ ap (λ us. (c ∷ t) ∷ us) h
 
 -- a number
 pub own : IsNumeralModel (λ ds. all_ascii_digits ds ≡ true) (digits_value 10)
@@ -78,14 +64,10 @@ module _ (name word : List ℕ) where
     name_is : before 61 word ≡ key
     name_is = ap (before 61) e ∙ before_mark 61 key rest l
 
-    pub field_found : key ≡ name → Some rest ≡ field_in name word
+    pub field_is : (b : Bool) (value : Bor (List ℕ)) → b ≡ bytes_eq key name → value.now ≡ rest → option_map (λ x. x.now) (then_some b value) ≡ field_in name word
     unfolding field_in
-    field_found s =
-        sym (cond-true (bytes_eq (before 61 word) name) _ _ ((bytes_eq-Decides (before 61 word) name).1 (name_is ∙ s)) ∙ ap (after 61) e ∙ after_mark 61 key rest l)
-
-    pub field_other : (key ≡ name → ⊥) → None ≡ field_in name word
-    unfolding field_in
-    field_other n = go (bytes_eq (before 61 word) name) refl where
-      go : (b : Bool) → bytes_eq (before 61 word) name ≡ b → None ≡ cond b (after 61 word) None
-      go true q = absurd (n (sym name_is ∙ (bytes_eq-Decides (before 61 word) name).0 q))
-      go false q = refl
+    field_is b value q v =
+        go b ∙ ap (λ a. cond b a None) (sym (ap (after 61) e ∙ after_mark 61 key rest l)) ∙ ap (λ a. cond a (after 61 word) None) (q ∙ ap (λ k. bytes_eq k name) (sym name_is)) where
+          go : (a : Bool) → option_map (λ x. x.now) (then_some a value) ≡ cond a (Some rest) None
+          go true = ap Some v
+          go false = refl

@@ -1,9 +1,11 @@
-use Rattle.std.specs.Prelude.{ℕ, cond, List, [], ◌∷◌, Some, None, codes, Option}
+use Rattle.std.specs.Prelude.{◌≡◌, ℕ, cond, List, [], ◌∷◌, Some, None, Ok, Err, codes, Option, Result}
 use Rattle.std.specs.Option.{option_map}
 use Rattle.std.specs.List.{join_with_byte}
 use Rattle.std.specs.Str.{bytes_eq}
 use Rattle.edges.specs.declared.table.Run.{Run}
 use Rattle.edges.specs.declared.table.Run.TheVariants.{Single, Repeated}
+use Rattle.notation.specs.declared.error.ListError.{ListError}
+use Rattle.notation.specs.declared.error.ListError.TheVariants.{NotAList, OutOfMemory}
 use Rattle.notation.specs.Texts.{before, after, parts_at, number_in}
 
 abbrev pub onto : {A : Type 0} → Option A → Option (List A) → Option (List A)
@@ -37,3 +39,9 @@ run_in t = run_with t (after 120 t)
 unfoldable pub list_text : ℕ → List (List ℕ) → List ℕ
 list_text m [] = codes "-"
 list_text m (t ∷ ts) = join_with_byte m (t ∷ ts)
+
+-- What a reading answers of what a text writes: the value, or that there is none; want of memory says nothing.
+abbrev pub Reads : {A B : Type 0} → (A → B) → Result A ListError → Option B → Type 0
+Reads held (Ok x) o = Some (held x) ≡ o
+Reads held (Err NotAList) o = None ≡ o
+Reads held (Err (OutOfMemory e)) o = Unit {0}

@@ -1,14 +1,14 @@
-ghost use Rattle.std.specs.Prelude.{◌≡◌, ℕ, List, IfOk, vec_items, Option};
-ghost use Rattle.std.specs.Option.{option_map};
+ghost use Rattle.std.specs.Prelude.{◌≡◌, ℕ, List, vec_items, Option};
 ghost use Rattle.notation.specs.Texts.{number_in, texts};
 ghost use Rattle.notation.specs.Laws.{WrittenIsRead};
-ghost use Rattle.notation.specs.Lists.{each_in, list_in, run_in};
+ghost use Rattle.notation.specs.Lists.{each_in, list_in, run_in, Reads};
 
+use crate::error::ListError;
 use crate::parts::{number, parts};
 use edges::Run;
-use std::alloc::{AllocError, Global};
+use std::alloc::Global;
 
-// What can stand in a list of the script.
+// What can stand in a list of the script. It is no `FromStr`, since that of `u64` reads a sign.
 pub trait Item: Copy {
     ghost reads: { List ℕ → Option Self };
 
@@ -37,26 +37,23 @@ impl Item for Run {
 }
 
 // What each text stands for, if each stands for something.
-fn each<T: Item>(heap: Global, words: &[&str]) -> Result<Option<Vec<T>>, AllocError>
-    ensures { IfOk result (λ o. option_map vec_items o ≡ each_in T.Item.reads (texts words.now)) }
+fn each<T: Item>(heap: Global, words: &[&str]) -> Result<Vec<T>, ListError>
+    ensures { Reads vec_items result (each_in T.Item.reads (texts words.now)) }
 {
     let mut items = Vec::new(heap);
     for word in words {
-        let Some(item) = T::read(word) else {
-            return Ok(None);
-        };
-        items.push(item)?;
+        items.push(T::read(word).ok_or(ListError::NotAList)?)?;
     }
-    Ok(Some(items))
+    Ok(items)
 }
 
 // The list that a text writes.
-pub fn list<T: Item>(heap: Global, text: &str) -> Result<Option<Vec<T>>, AllocError>
-    ensures list { IfOk result (λ o. option_map vec_items o ≡ list_in T.Item.reads text.now) }
+pub fn list<T: Item>(heap: Global, text: &str) -> Result<Vec<T>, ListError>
+    ensures list { Reads vec_items result (list_in T.Item.reads text.now) }
     ensures back { WrittenIsRead }
 {
     if text == "-" {
-        return Ok(Some(Vec::new(heap)));
+        return Ok(Vec::new(heap));
     }
     let words = parts(heap, text, ',')?;
     each(heap, words.as_slice())

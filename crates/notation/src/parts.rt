@@ -1,6 +1,6 @@
 ghost use Rattle.std.specs.Prelude.{◌≡◌, ◌<◌, IfOk};
 ghost use Rattle.std.specs.Option.{option_map};
-ghost use Rattle.notation.specs.Texts.{parts_at, filled as filled_parts, words_of, texts, number_in, field_in};
+ghost use Rattle.notation.specs.Texts.{parts_at, words_of, texts, number_in, field_in};
 
 use std::alloc::{AllocError, Global};
 
@@ -19,25 +19,13 @@ pub fn items<'a>(heap: Global, text: &'a str) -> Result<Vec<&'a str>, AllocError
     parts(heap, text, ';')
 }
 
-// Those parts that are not empty.
-fn filled<'a>(heap: Global, parts: &[&'a str]) -> Result<Vec<&'a str>, AllocError>
-    ensures { IfOk result (λ v. texts v.items ≡ filled_parts (texts parts.now)) }
-{
-    let mut words = Vec::new(heap);
-    for part in parts {
-        if !part.is_empty() {
-            words.push(*part)?;
-        }
-    }
-    Ok(words)
-}
-
 // The words of a line, between spaces.
 pub fn words<'a>(heap: Global, line: &'a str) -> Result<Vec<&'a str>, AllocError>
     ensures { IfOk result (λ v. texts v.items ≡ words_of line.now) }
 {
-    let all = parts(heap, line, ' ')?;
-    filled(heap, all.as_slice())
+    let mut words = parts(heap, line, ' ')?;
+    words.retain(|part| !part.is_empty());
+    Ok(words)
 }
 
 // The number that a text writes.
@@ -54,8 +42,6 @@ pub fn number(text: &str) -> Option<u64>
 pub fn field<'a>(name: &str, word: &'a str) -> Option<&'a str>
     ensures { option_map (λ x. x.now) result ≡ field_in name.now word.now }
 {
-    match word.split_once('=') {
-        Some((key, value)) => { if key == name { Some(value) } else { None } }
-        None => None,
-    }
+    let (key, value) = word.split_once('=')?;
+    (key == name).then_some(value)
 }

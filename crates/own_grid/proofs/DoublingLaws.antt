@@ -1,5 +1,6 @@
 use Rattle.std.proofs.Common.{◌≡◌, ℕ, zero, suc, ◌+◌, ◌-◌, ◌*◌, ◌^◌, ◌<◌, ◌≤◌, [], ◌∷◌, Some, None, Ok, Option, sym, ap, ◌∙◌, pow-suc, add-one, arith, pow_pos, pow_mono}
 use lib.Pow.{pow-lt}
+use Rattle.std.specs.Option.{MatchOption}
 use Rattle.std.proofs.lemmas.Bool.{lt-ltb}
 use Rattle.axes.specs.Axes.{Axis, origin, chunk_of}
 use Rattle.axes.specs.ChunkLaws.{chunk_contains, chunk_none}
@@ -28,6 +29,16 @@ chunk_past n i h =
     let s = pow-suc 2 k in
     let m = pow_mono {i = suc k} {j = n} l in
     let z : ⊥ = omega arith in z)
+
+-- a search through the chunks for the first that ends past an index
+pub chunk_sought : (n i : ℕ) (r : Option ℕ) → n ≤ 63
+    → MatchOption r ((k : ℕ) → 0 ≤ k → k < n → 2 ^ (k + 1) - 1 ≤ i) (λ k. (0 ≤ k) × (k < n) × (i < 2 ^ (k + 1) - 1) × ((j : ℕ) → 0 ≤ j → j < k → 2 ^ (j + 1) - 1 ≤ i))
+    → r ≡ chunk_of (doubling n) i
+chunk_sought zero i None few h = sym (chunk_past zero i (omega arith))
+chunk_sought (suc n) i None few h = sym (chunk_past (suc n) i (rw add-one at (h n (omega arith) (omega arith))))
+chunk_sought n i (Some zero) few (a, l, high, before) = sym (chunk_found n zero i few l (omega arith) high)
+chunk_sought n i (Some (suc k)) few (a, l, high, before) =
+    sym (chunk_found n (suc k) i few l (rw add-one at (before k (omega arith) (omega arith))) high)
 
 -- the origin of a chunk is one less than its edge
 origin_there : (n k a e : ℕ) → n ≤ 63 → Some e ≡ (doubling n).edge k → Ok (Some (e - 1)) ≡ origin_at a k (doubling n)

@@ -26,55 +26,38 @@ impl ChunkGrid for Doubling {
     }
 
     fn size(&self, axis: usize) -> Option<u64> {
-        if axis == 0 {
-            Some(2u64.pow(self.number) - 1)
-        } else {
-            None
-        }
+        (axis == 0).then(|| 2u64.pow(self.number) - 1)
     }
 
     fn chunks(&self, axis: usize) -> Option<u64> {
-        if axis == 0 {
-            Some(self.number as u64)
-        } else {
-            None
-        }
+        (axis == 0).then(|| u64::from(self.number))
     }
 
     fn edge(&self, axis: usize, chunk: u64) -> Option<Edge> {
-        if axis != 0 {
-            return None;
-        }
-        if chunk < self.number as u64 {
-            Some(Edge {
-                length: 2u64.pow(chunk as u32),
-            })
-        } else {
-            None
-        }
+        let there = axis == 0 && chunk < u64::from(self.number);
+        there.then(|| Edge {
+            number: 2u64.pow(chunk as u32),
+        })
     }
 
     fn origin(&self, axis: usize, chunk: u64) -> Result<Option<u64>, Fault> {
-        match self.edge(axis, chunk) {
-            Some(edge) => Ok(Some(edge.get() - 1)),
-            None => Ok(None),
-        }
+        // `?` serves refusals here, so an absence is answered by hand.
+        let Some(edge) = self.edge(axis, chunk) else {
+            return Ok(None);
+        };
+        Ok(Some(edge.get() - 1))
     }
 
     fn chunk_at(&self, axis: usize, index: u64) -> Option<u64> {
         if axis != 0 {
             return None;
         }
-        for chunk in 0..self.number {
-            if index < 2u64.pow(chunk + 1) - 1 {
-                return Some(chunk as u64);
-            }
-        }
-        None
+        let chunk = (0..self.number).find(|chunk| index < 2u64.pow(chunk + 1) - 1)?;
+        Some(u64::from(chunk))
     }
 
     fn fits(&self, limit: u64, width: u64) -> bool {
-        let counts = [self.number as u64];
+        let counts = [u64::from(self.number)];
         let longest = [2u64.pow(self.number.saturating_sub(1))];
         fits_by(&counts, &longest, limit, width)
     }

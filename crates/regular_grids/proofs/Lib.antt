@@ -1,4 +1,2 @@
-pub mod LengthAnswers
-pub mod LengthLaws
-pub mod FixedAnswers
 pub mod BoundedAnswers
+pub mod LengthLaws

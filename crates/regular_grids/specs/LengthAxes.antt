@@ -1,40 +1,39 @@
-use Rattle.std.specs.Prelude.{ℕ, ◌*◌, ◌^◌, ◌<◌, ◌≤◌, cond, List, length, Some, None, Err, Option, Result, ◌==◌, nat_le, nat_lt, slice_index}
+use Rattle.std.specs.Prelude.{◌≡◌, ℕ, ◌*◌, ◌^◌, ◌<◌, ◌≤◌, cond, List, [], ◌∷◌, map, length, take, Some, None, Err, Option, Result, ◌==◌, nat_le, nat_lt, slice_index}
+use Rattle.std.proofs.Common.{arith}
+use Rattle.std.proofs.lemmas.List.{length-map, length-take}
 use Rattle.edges.specs.declared.fault.Cause.{Cause}
 use Rattle.edges.specs.declared.fault.Cause.TheVariants.{Length, Axes, Zero}
 use Rattle.edges.specs.declared.fault.Fault.{Fault}
-use Rattle.axes.specs.Axes.{Axis, LawfulAxis, Lawful, axes_by, rounded_up}
-use Rattle.axes.specs.AxisLaws.{lawful_by}
+use Rattle.axes.specs.Axes.{Axis, LawfulAxis, Each, Lawful, rounded_up}
 use Rattle.grids.specs.Places.{refused}
 use Rattle.grids.specs.Making.{made_by}
 use Rattle.regular_grids.specs.declared.lengths.Lengths.{Lengths}
 use Rattle.regular_grids.specs.declared.lengths.AxisLengths.{AxisLengths}
 
--- The axes that a rule makes from sizes and edges.
-abbrev pub length_axis : (ℕ → ℕ → Axis) → Lengths → ℕ → Axis
-length_axis rule g a = rule (slice_index g.sizes a) (slice_index g.edges a)
+-- The axis that a rule makes from a size and an edge.
+abbrev pub axis_by : (ℕ → ℕ → Axis) → AxisLengths → Axis
+axis_by rule x = rule x.size x.edge.number
 
 abbrev pub length_axes : (ℕ → ℕ → Axis) → Lengths → List Axis
-length_axes rule g = axes_by g.number (length_axis rule g)
+length_axes rule g = map (axis_by rule) (take g.number g.places)
 
-pub length_lawful : (rule : ℕ → ℕ → Axis) → ((n s : ℕ) → 1 ≤ s → n < 2 ^ 64 → s < 2 ^ 64 → LawfulAxis (rule n s))
-    → (g : Lengths) → Lawful (length_axes rule g)
+-- What a rule keeps: its axes have the size and the rounded quotient for their count, and are lawful.
+pub record RuleKept (rule : ℕ → ℕ → Axis) : Type 0 where
+  pub size : (n s : ℕ) → (rule n s).size ≡ n
+  pub count : (n s : ℕ) → (rule n s).count ≡ rounded_up n s
+  pub lawful : (n s : ℕ) → 1 ≤ s → n < 2 ^ 64 → s < 2 ^ 64 → LawfulAxis (rule n s)
+
+each_axis : (rule : ℕ → ℕ → Axis) → ((n s : ℕ) → 1 ≤ s → n < 2 ^ 64 → s < 2 ^ 64 → LawfulAxis (rule n s)) → (xs : List AxisLengths)
+    → Each LawfulAxis (map (axis_by rule) xs)
+each_axis rule lawful [] = tt
+each_axis rule lawful (x ∷ xs) =
+    (lawful x.size x.edge.number x.edge.positive x.size_fits x.edge_fits, each_axis rule lawful xs)
+
+pub length_lawful : (rule : ℕ → ℕ → Axis) → ((n s : ℕ) → 1 ≤ s → n < 2 ^ 64 → s < 2 ^ 64 → LawfulAxis (rule n s)) → (g : Lengths)
+    → Lawful (length_axes rule g)
 length_lawful rule lawful g =
-    lawful_by g.number (length_axis rule g) g.few
-    (λ a l. lawful _ _ (g.positive a l) (g.sizes_fit a l) (g.edges_fit a l))
-
--- The size and the edge of axis a, where there is such an axis.
-abbrev pub lengths_at : Lengths → ℕ → Option (ℕ × ℕ)
-lengths_at g a = cond (nat_lt a g.number) (Some (slice_index g.sizes a, slice_index g.edges a)) None
-
--- the same of a value of the code
-abbrev pub numbers : Option AxisLengths → Option (ℕ × ℕ)
-numbers None = None
-numbers (Some x) = Some (x.size, x.edge.length)
-
--- what is made of a size and an edge, where they are there
-abbrev pub of_lengths : {B : Type 0} → (ℕ → ℕ → Option B) → Option (ℕ × ℕ) → Option B
-of_lengths f None = None
-of_lengths f (Some p) = f p.0 p.1
+    let few = g.few in
+    (simp (length-map, length-take) (omega arith), each_axis rule lawful (take g.number g.places))
 
 -- where chunk k begins, below the number of chunks
 abbrev pub start_below : ℕ → ℕ → ℕ → Option ℕ

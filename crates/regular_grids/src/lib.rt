@@ -1,6 +1,8 @@
 // Grids whose chunks have one edge on each axis: regular, and bounded by the array.
 #![tactic(auto)]
 
+mod edge_rule;
+mod length_grid;
 mod lengths;
 mod making;
 mod reading;

@@ -1,6 +1,5 @@
-pub mod NameLaws
 pub mod ArgumentLaws
 pub mod QuestionLaws
-pub mod ReplyLaws
+pub mod StopLaws
 pub mod LineLaws
 pub mod TableLaws

@@ -1,13 +1,14 @@
-use Rattle.std.proofs.Common.{◌≡◌, ℕ, ◌+◌, ◌<◌, ◌≤◌, eqb, List, [], ◌∷◌, ◌++◌, length, get_or, drop, Some, None, codes, Option, sym, refl, ap, ◌∙◌, subst, Bor, MatchOption}
+use Rattle.std.proofs.Common.{◌≡◌, ℕ, ◌+◌, ◌<◌, ◌≤◌, eqb, List, [], ◌∷◌, ◌++◌, length, get_or, drop, Some, None, Ok, Err, vec_items, Option, sym, refl, ap, ◌∙◌, Bor, MatchOption}
 use Rattle.std.specs.Option.{option_map}
 use Rattle.std.proofs.lemmas.List.{drop_more, at_drop_all}
 use Rattle.std.proofs.lemmas.Bool.{cond-true, cond-false, eq-eqb, ne_eqb}
-use Rattle.std.specs.Str.{bytes_eq}
-use Rattle.std.proofs.lemmas.Slice.Eq.{bytes_eq-Decides}
-use Rattle.notation.specs.Texts.{texts, parts_at}
+use Rattle.notation.specs.Texts.{texts}
 use Rattle.notation.proofs.WordLaws.{no_text}
-use Rattle.script.proofs.NameLaws.{not_same}
-use Rattle.script.specs.Tables.{closed, bracketed, Laying, next_axis, then_axes, axes_laid, axes_in, nothing_laid, Added}
+use Rattle.edges.specs.declared.fault.Fault.{Fault}
+use Rattle.script.specs.declared.tables.AxisText.{AxisText}
+use Rattle.script.specs.declared.tables.AxisText.TheVariants.{Runs}
+use Rattle.script.specs.declared.tables.AxisText.TheVariants as axis
+use Rattle.script.specs.Tables.{closed, bracketed, Laying, next_axis, then_axes, axes_laid, runs_more, added, all_added, unless, whole}
 
 -- a text in brackets
 closed_there : (front : List ℕ) → closed (front ++ 93 ∷ []) ≡ Some front
@@ -52,18 +53,41 @@ module _ (words : List (Bor (List ℕ))) (start : Laying) (i : ℕ) (l : Laying)
   unfolding axes_laid
   axes_read h = sym (at_drop_all (λ ws. axes_laid (texts ws) l) words i h) ∙ p
 
--- the text of the axes
-pub no_axes : (t : List ℕ) → t ≡ codes "-" → Some nothing_laid ≡ axes_in t
-unfolding axes_in
-no_axes t e = sym (cond-true (bytes_eq t (codes "-")) (Some nothing_laid) (axes_laid (parts_at 59 t) nothing_laid) ((bytes_eq-Decides t (codes "-")).1 e))
+-- axes that are laid one after another
+pub all_added_push : (l : Laying) (axes : List AxisText) (a : AxisText) → all_added l (axes ++ a ∷ []) ≡ added (all_added l axes) a
+unfolding all_added
+all_added_push l [] a = refl
+all_added_push l (b ∷ axes) a = all_added_push (added l b) axes a
 
-pub some_axes : (t : List ℕ) → (t ≡ codes "-" → ⊥) → axes_laid (parts_at 59 t) nothing_laid ≡ axes_in t
-unfolding axes_in
-some_axes t n = sym (cond-false (bytes_eq t (codes "-")) (Some nothing_laid) (axes_laid (parts_at 59 t) nothing_laid) (not_same t (codes "-") n))
+-- after a refusal nothing more is laid
+fault_kept : (l : Laying) (a : AxisText) (f : Fault) → l.fault ≡ Some f → (added l a).fault ≡ Some f
+fault_kept l (axis.Fixed e) f q = q
+fault_kept l (Runs rs) f q = ap (λ o. (runs_more l o (vec_items rs)).fault) q ∙ q
 
--- what an added axis leaves, where it was read and where it was not
-pub was_added : (o : Option (Unit {0})) (u : Unit {0}) (before after : Laying) (t : List ℕ) → o ≡ Some u → Added o before after t → Some after ≡ next_axis before t
-was_added o u before after t e a = subst (λ p. Added p before after t) e a
+all_kept : (l : Laying) (axes : List AxisText) (f : Fault) → l.fault ≡ Some f → (all_added l axes).fault ≡ Some f
+unfolding all_added
+all_kept l [] f q = q
+all_kept l (a ∷ axes) f q = all_kept (added l a) axes f (fault_kept l a f q)
 
-pub not_added : (o : Option (Unit {0})) (before after : Laying) (t : List ℕ) → o ≡ None → Added o before after t → None ≡ next_axis before t
-not_added o before after t e a = subst (λ p. Added p before after t) e a
+fault_is : (l : Laying) (f : Fault) → Some (Err f) ≡ Some (whole l) → l.fault ≡ Some f
+fault_is l f e = go l.fault e where
+  go : (o : Option Fault) → Some (Err f) ≡ Some (unless l o) → o ≡ Some f
+  go None q = cc
+  go (Some g) q = cc
+
+pub refused_stays : (l : Laying) (axes : List AxisText) (f : Fault) → Some (Err f) ≡ Some (whole l) → Some (Err f) ≡ Some (whole (all_added l axes))
+refused_stays l axes f e = ap Some (sym (ap (unless (all_added l axes)) (all_kept l axes f (fault_is l f e))))
+
+pub whole_is : (l m : Laying) → Some (Ok m) ≡ Some (whole l) → m ≡ l
+whole_is l m e = go l.fault e where
+  go : (o : Option Fault) → Some (Ok m) ≡ Some (unless l o) → m ≡ l
+  go None q = cc
+  go (Some f) q = cc
+
+pub next_added : (axes : List AxisText) (i : ℕ) (l : Laying) (a : AxisText) → i < length axes → a ≡ get_or axes i a → all_added l (drop i axes) ≡ all_added (added l a) (drop (i + 1) axes)
+unfolding all_added
+next_added axes i l a h e = ap (all_added l) (drop_more axes i a h ∙ ap (λ b. b ∷ drop (i + 1) axes) (sym e))
+
+pub added_all : (axes : List AxisText) (i : ℕ) (l : Laying) → length axes ≤ i → all_added l (drop i axes) ≡ l
+unfolding all_added
+added_all axes i l h = at_drop_all (all_added l) axes i h

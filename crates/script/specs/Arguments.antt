@@ -46,6 +46,14 @@ number_field name word = number_of (field_in name word)
 abbrev pub numbers_field : List ℕ → List ℕ → Option (List ℕ)
 numbers_field name word = numbers_of (field_in name word)
 
+abbrev pub if_read : {A B : Type 0} → Option A → (A → Option B) → Option B
+if_read None k = None
+if_read (Some x) k = k x
+
+-- The list of numbers that is the only argument.
+abbrev pub only_numbers : List (List ℕ) → Option (List ℕ)
+only_numbers args = if_read (one_of args) (list_in number_in)
+
 -- A room above 65536 is not given.
 abbrev pub with_room : (ℕ → Reply) → ℕ → Reply
 with_room k n = cond (nat_lt 65536 n) room_too_large (k n)

@@ -1,4 +1,5 @@
 pub mod Replies
+pub mod Stops
 pub mod Names
 pub mod Arguments
 pub mod Questions

@@ -1,4 +1,4 @@
-use Rattle.std.specs.Prelude.{◌≡◌, ℕ, cond, List, [], ◌∷◌, Some, None, Ok, Err, vec_items, codes, Option, Result, Vec, ◌==◌, slice_index}
+use Rattle.std.specs.Prelude.{◌≡◌, ℕ, cond, List, [], ◌∷◌, Some, None, Ok, Err, vec_items, codes, Option, Result, ◌==◌, slice_index}
 use Rattle.std.specs.Option.{option_map}
 use Rattle.std.specs.Str.{bytes_eq}
 use Rattle.edges.specs.Answers.{lay_answer, compress_answer}
@@ -12,10 +12,14 @@ use Rattle.table_grids.specs.declared.dimension.Dimension.{Dimension}
 use Rattle.notation.specs.Texts.{words_of, number_in, field_in}
 use Rattle.notation.specs.Lists.{list_in, run_in}
 use Rattle.script.specs.declared.current.Current.{Current}
-use Rattle.script.specs.declared.current.Current.TheVariants.{Regular, Bounded, Rectangular, Rectilinear, Refused}
+use Rattle.script.specs.declared.current.Current.TheVariants.{Lengths, Tables}
+use Rattle.script.specs.declared.current.LengthKind.{LengthKind}
+use Rattle.script.specs.declared.current.LengthKind.TheVariants.{Regular, Bounded}
+use Rattle.script.specs.declared.current.TableKind.{TableKind}
+use Rattle.script.specs.declared.current.TableKind.TheVariants.{Rectangular, Rectilinear}
 use Rattle.script.specs.declared.name.Command.{Command}
 use Rattle.script.specs.declared.name.Command.TheVariants.{Lay, Compress, Grid, Ask}
-use Rattle.script.specs.Arguments.{with_read, with_room, two_of, three_of, number_field, numbers_field}
+use Rattle.script.specs.Arguments.{with_read, with_room, two_of, three_of, number_field, numbers_field, if_read}
 use Rattle.script.specs.Names.{command_named}
 use Rattle.script.specs.Questions.{question_reply}
 use Rattle.script.specs.Tables.{Laying, axes_in}
@@ -32,24 +36,25 @@ abbrev pub or_refused : {A : Type 0} → (List A → Reply) → Result (List A) 
 or_refused k (Ok xs) = k xs
 or_refused k (Err f) = refused f
 
--- What a vector or a refusal holds.
-abbrev pub items_in : {A Z : Type 0} → Result (Vec A Z) Fault → Result (List A) Fault
-items_in (Ok v) = Ok (vec_items v)
-items_in (Err f) = Err f
-
 abbrev pub laid_reply : List Run → ℕ → Reply
 laid_reply xs n = or_refused entries (lay_answer xs n)
 
 abbrev pub compressed_reply : List ℕ → ℕ → Reply
 compressed_reply xs n = or_refused runs (compress_answer xs n)
 
+-- What is made of sizes and edges, and of sizes, axes and their table.
+abbrev pub lengths_making : LengthKind → List ℕ → List ℕ → Result (List Axis) Fault
+lengths_making Regular = new_regular
+lengths_making Bounded = new_bounded
+
+abbrev pub tables_making : TableKind → List ℕ → List Dimension → List OffsetSize → Result (List Axis) Fault
+tables_making Rectangular = new_rectangular
+tables_making Rectilinear = new_rectilinear
+
 -- What the making of the current grid gives.
 abbrev pub current_making : Current → Result (List Axis) Fault
-current_making (Regular sizes edges) = new_regular (vec_items sizes) (vec_items edges)
-current_making (Bounded sizes edges) = new_bounded (vec_items sizes) (vec_items edges)
-current_making (Rectangular sizes axes table) = new_rectangular (vec_items sizes) (vec_items axes) (vec_items table)
-current_making (Rectilinear sizes axes table) = new_rectilinear (vec_items sizes) (vec_items axes) (vec_items table)
-current_making (Refused f) = Err f
+current_making (Lengths kind sizes edges) = lengths_making kind (vec_items sizes) (vec_items edges)
+current_making (Tables kind sizes axes table) = tables_making kind (vec_items sizes) (vec_items axes) (vec_items table)
 
 -- What is made of laid axes; a refusal of the laying is the grid's.
 abbrev pub laid_making : (List Dimension → List OffsetSize → Result (List Axis) Fault) → Laying → Option Fault → Result (List Axis) Fault
@@ -67,10 +72,6 @@ kind_making kind sizes spec =
     (cond (bytes_eq kind (codes "rectangular")) (option_map (axes_making (new_rectangular sizes)) (axes_in spec))
     (cond (bytes_eq kind (codes "rectilinear")) (option_map (axes_making (new_rectilinear sizes)) (axes_in spec))
     None)))
-
-abbrev pub if_read : {A B : Type 0} → Option A → (A → Option B) → Option B
-if_read None k = None
-if_read (Some x) k = k x
 
 -- `grid KIND sizes=LIST spec=TEXT`
 abbrev pub making_in : List (List ℕ) → Option (Result (List Axis) Fault)

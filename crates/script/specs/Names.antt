@@ -2,10 +2,7 @@ use Rattle.std.specs.Prelude.{ℕ, cond, List, [], ◌∷◌, Some, None, codes,
 use Rattle.std.specs.Str.{bytes_eq}
 use Rattle.script.specs.declared.name.Command.{Command}
 use Rattle.script.specs.declared.name.Command.TheVariants.{Lay, Compress, Grid, Ask}
-use Rattle.script.specs.declared.name.About.TheVariants.{ChunkShape, ChunkOrigin, ChunkIndices, ChunkElementIndices}
-use Rattle.script.specs.declared.name.Question.TheVariants.{Dimensionality, Numbers, Subset, Inbounds, ChunksIn, Fits}
-use Rattle.script.specs.declared.name.Question.TheVariants as question
-use Rattle.script.specs.declared.name.Shape.TheVariants as shape
+use Rattle.script.specs.declared.name.Question.TheVariants.{Dimensionality, ArrayShape, GridShape, ChunkShape, ChunkOrigin, ChunkIndices, ChunkElementIndices, Subset, Inbounds, ChunksIn, Fits}
 
 -- The commands and their names.
 abbrev pub names : List (List ℕ × Command)
@@ -14,13 +11,13 @@ names =
     ∷ (codes "compress", Compress)
     ∷ (codes "grid", Grid)
     ∷ (codes "dimensionality", Ask Dimensionality)
-    ∷ (codes "array_shape", Ask (question.Shape shape.Array))
-    ∷ (codes "grid_shape", Ask (question.Shape shape.Grid))
-    ∷ (codes "chunk_shape", Ask (Numbers ChunkShape))
-    ∷ (codes "chunk_origin", Ask (Numbers ChunkOrigin))
+    ∷ (codes "array_shape", Ask ArrayShape)
+    ∷ (codes "grid_shape", Ask GridShape)
+    ∷ (codes "chunk_shape", Ask ChunkShape)
+    ∷ (codes "chunk_origin", Ask ChunkOrigin)
     ∷ (codes "subset", Ask Subset)
-    ∷ (codes "chunk_indices", Ask (Numbers ChunkIndices))
-    ∷ (codes "chunk_element_indices", Ask (Numbers ChunkElementIndices))
+    ∷ (codes "chunk_indices", Ask ChunkIndices)
+    ∷ (codes "chunk_element_indices", Ask ChunkElementIndices)
     ∷ (codes "inbounds", Ask Inbounds)
     ∷ (codes "chunks_in", Ask ChunksIn)
     ∷ (codes "fits", Ask Fits)

@@ -1,16 +1,13 @@
 use Rattle.std.specs.Prelude.{ℕ, List, length, Some, None, Ok, Err, codes}
+use Rattle.std.specs.Borrow.{Bor, MutBor}
 use Rattle.axes.specs.Axes.{Axis}
 use Rattle.axes.specs.Fitting.{fits_test}
 use Rattle.grids.specs.Answers.{array_shape_answer, grid_shape_answer, chunk_shape_answer, chunk_origin_answer, chunk_indices_answer, chunk_element_indices_answer, subset_answer, chunks_in_answer, inbounds}
-use Rattle.grids.specs.Places.{Answer}
+use Rattle.grids.specs.Places.{Answer, Gives}
 use Rattle.notation.specs.Texts.{number_in}
 use Rattle.notation.specs.Lists.{list_in}
 use Rattle.script.specs.declared.name.Question.{Question}
-use Rattle.script.specs.declared.name.Question.TheVariants.{Dimensionality, Shape, Numbers, Subset, Inbounds, ChunksIn, Fits}
-use Rattle.script.specs.declared.name.About.{About}
-use Rattle.script.specs.declared.name.About.TheVariants.{ChunkShape, ChunkOrigin, ChunkIndices, ChunkElementIndices}
-use Rattle.script.specs.declared.name.Shape as name
-use Rattle.script.specs.declared.name.Shape.TheVariants.{Array, Grid}
+use Rattle.script.specs.declared.name.Question.TheVariants.{Dimensionality, ArrayShape, GridShape, ChunkShape, ChunkOrigin, ChunkIndices, ChunkElementIndices, Subset, Inbounds, ChunksIn, Fits}
 use Rattle.script.specs.Arguments.{none_of, one_of, two_of, with_read, number_field, numbers_field}
 use Rattle.script.specs.Replies.{Reply, number, found, absent, bounds, chunks, decided, refused}
 
@@ -30,25 +27,22 @@ answered_reply (Ok None) x = absent
 answered_reply (Err f) x = refused f
 
 -- A question without numbers: its answer goes into a place with one entry for each axis.
-abbrev pub shape_answer : name.Shape → List Axis → ℕ → Answer (List ℕ)
-shape_answer Array = array_shape_answer
-shape_answer Grid = grid_shape_answer
-
-abbrev pub shape_reply : name.Shape → List Axis → List (List ℕ) → Reply
-shape_reply shape xs args = with_read (none_of args) (λ _. answer_reply found (shape_answer shape xs (length xs)))
+abbrev pub shape_reply : (ℕ → Answer (List ℕ)) → List Axis → List (List ℕ) → Reply
+shape_reply answer xs args = with_read (none_of args) (λ _. answer_reply found (answer (length xs)))
 
 -- A question about a list of numbers.
 abbrev pub about_numbers : (List ℕ → Reply) → List (List ℕ) → Reply
 about_numbers k args = with_read (one_of args) (λ t. with_read (list_in number_in t) k)
 
-abbrev pub about_answer : About → List Axis → List ℕ → ℕ → Answer (List ℕ)
-about_answer ChunkShape = chunk_shape_answer
-about_answer ChunkOrigin = chunk_origin_answer
-about_answer ChunkIndices = chunk_indices_answer
-about_answer ChunkElementIndices = chunk_element_indices_answer
+abbrev pub numbers_reply : (List ℕ → ℕ → Answer (List ℕ)) → List Axis → List (List ℕ) → Reply
+numbers_reply answer xs = about_numbers (λ ns. answer_reply found (answer ns (length xs)))
 
-abbrev pub numbers_reply : About → List Axis → List (List ℕ) → Reply
-numbers_reply about xs = about_numbers (λ ns. answer_reply found (about_answer about xs ns (length xs)))
+-- What a call does that asks such a question: the place holds the answer.
+abbrev pub Asks : (MutBor (List ℕ) → Answer (Unit {0}) → MutBor (List ℕ) → Type 0) → (ℕ → Answer (List ℕ)) → Type 0
+Asks post answer = (before after : MutBor (List ℕ)) (r : Answer (Unit {0})) → post before r after → Gives before.now after.now r (answer (length before.now))
+
+abbrev pub AsksAbout : (Bor (List ℕ) → MutBor (List ℕ) → Answer (Unit {0}) → MutBor (List ℕ) → Type 0) → (List ℕ → ℕ → Answer (List ℕ)) → Type 0
+AsksAbout post answer = (numbers : Bor (List ℕ)) → Asks (post numbers) (answer numbers.now)
 
 abbrev pub subset_reply : List Axis → List (List ℕ) → Reply
 subset_reply xs = about_numbers (λ ns. answer_reply (λ p. bounds p.0 p.1) (subset_answer xs ns (length xs) (length xs)))
@@ -75,8 +69,12 @@ fits_reply xs args =
 -- What a grid with these axes replies to a question.
 abbrev pub question_reply : List Axis → Question → List (List ℕ) → Reply
 question_reply xs Dimensionality = dimensionality_reply xs
-question_reply xs (Shape shape) = shape_reply shape xs
-question_reply xs (Numbers about) = numbers_reply about xs
+question_reply xs ArrayShape = shape_reply (array_shape_answer xs) xs
+question_reply xs GridShape = shape_reply (grid_shape_answer xs) xs
+question_reply xs ChunkShape = numbers_reply (chunk_shape_answer xs) xs
+question_reply xs ChunkOrigin = numbers_reply (chunk_origin_answer xs) xs
+question_reply xs ChunkIndices = numbers_reply (chunk_indices_answer xs) xs
+question_reply xs ChunkElementIndices = numbers_reply (chunk_element_indices_answer xs) xs
 question_reply xs Subset = subset_reply xs
 question_reply xs Inbounds = inbounds_reply xs
 question_reply xs ChunksIn = chunks_in_reply xs

@@ -1,4 +1,4 @@
-use Rattle.std.specs.Prelude.{◌≡◌, ℕ, ◌-◌, cond, List, [], ◌∷◌, ◌++◌, length, Some, None, Ok, Err, vec_items, codes, Option, Result, ◌==◌}
+use Rattle.std.specs.Prelude.{ℕ, ◌-◌, cond, List, [], ◌∷◌, ◌++◌, length, Some, None, Ok, Err, vec_items, codes, Option, Result, ◌==◌}
 use Rattle.std.specs.Option.{option_map}
 use Rattle.std.specs.Str.{bytes_eq}
 use Rattle.edges.specs.Answers.{lay_answer}
@@ -9,6 +9,9 @@ use Rattle.table_grids.specs.declared.dimension.Dimension.{Dimension}
 use Rattle.table_grids.specs.declared.dimension.Dimension.TheVariants.{Fixed, Varying}
 use Rattle.notation.specs.Texts.{parts_at, number_in}
 use Rattle.notation.specs.Lists.{list_in, run_in}
+use Rattle.script.specs.declared.tables.AxisText.{AxisText}
+use Rattle.script.specs.declared.tables.AxisText.TheVariants.{Runs}
+use Rattle.script.specs.declared.tables.AxisText.TheVariants as axis
 use Rattle.script.specs.declared.tables.Tables.{Tables}
 
 -- The text before a `]` at its end.
@@ -29,7 +32,7 @@ pub record Laying : Type 0 where
   pub fault : Option Fault
 
 abbrev pub laying : Tables → Laying
-laying t = record { dimensions = vec_items t.dimensions; table = vec_items t.table; fault = t.fault }
+laying t = record { dimensions = vec_items t.dimensions; table = vec_items t.table; fault = None }
 
 abbrev pub nothing_laid : Laying
 nothing_laid = record { dimensions = []; table = []; fault = None }
@@ -67,11 +70,19 @@ axes_laid (t ∷ ts) l = then_axes (axes_laid ts) (next_axis l t)
 unfoldable pub axes_in : List ℕ → Option Laying
 axes_in t = cond (bytes_eq t (codes "-")) (Some nothing_laid) (axes_laid (parts_at 59 t) nothing_laid)
 
--- What a call that adds an axis answers and leaves; absent where the text writes none.
-abbrev pub Added : Option (Unit {0}) → Laying → Laying → List ℕ → Type 0
-Added (Some u) before after t = Some after ≡ next_axis before t
-Added None before after t = None ≡ next_axis before t
+-- One more axis, and more of them, as they are written.
+abbrev pub added : Laying → AxisText → Laying
+added l (axis.Fixed e) = fixed_more l e
+added l (Runs rs) = runs_more l l.fault (vec_items rs)
 
-abbrev pub Adds : {E : Type 0} → Result (Option (Unit {0})) E → Laying → Laying → List ℕ → Type 0
-Adds (Ok o) before after t = Added o before after t
-Adds (Err e) before after t = Unit {0}
+unfoldable pub all_added : Laying → List AxisText → Laying
+all_added l [] = l
+all_added l (a ∷ more) = all_added (added l a) more
+
+-- What was laid, or the first refusal.
+abbrev pub unless : {A : Type 0} → A → Option Fault → Result A Fault
+unless x None = Ok x
+unless x (Some f) = Err f
+
+abbrev pub whole : Laying → Result Laying Fault
+whole l = unless l l.fault

@@ -1,4 +1,4 @@
-ghost use Rattle.std.specs.Prelude.{Some};
+ghost use Rattle.std.specs.Prelude.{◌≡◌, Some};
 ghost use Rattle.script.specs.Replies.{meant, reply_text};
 
 use edges::{Fault, OffsetSize, Run};
@@ -22,6 +22,14 @@ pub enum Answer {
     NotUnderstood,
 }
 
+// Items with commas between them.
+fn commas<T>(items: &[T]) -> Listed<'_, T>
+    ensures items { result.items.now ≡ items.now }
+    ensures mark { result.mark ≡ 44 }
+{
+    Listed { items, mark: ',' }
+}
+
 impl fmt::Display for Answer {
     ghost output = { λ a. Some (reply_text (meant a)) };
 
@@ -35,30 +43,21 @@ impl fmt::Display for Answer {
             }
             Answer::Runs(runs) => {
                 let number = runs.len();
-                let items = runs.as_slice();
-                let list = Listed { items, mark: ',' };
+                let list = commas(runs.as_slice());
                 write!(f, "{number} runs {list}")
             }
             Answer::Made => write!(f, "ok"),
             Answer::Number(number) => write!(f, "{number}"),
-            Answer::Found(values) => {
-                let items = values.as_slice();
-                let list = Listed { items, mark: ',' };
-                write!(f, "some {list}")
-            }
+            Answer::Found(values) => write!(f, "some {}", commas(values.as_slice())),
             Answer::Absent => write!(f, "none"),
             Answer::Bounds(origins, ends) => {
-                let items = origins.as_slice();
-                let first = Listed { items, mark: ',' };
-                let items = ends.as_slice();
-                let second = Listed { items, mark: ',' };
+                let first = commas(origins.as_slice());
+                let second = commas(ends.as_slice());
                 write!(f, "some {first} to {second}")
             }
             Answer::Chunks(firsts, counts) => {
-                let items = firsts.as_slice();
-                let first = Listed { items, mark: ',' };
-                let items = counts.as_slice();
-                let second = Listed { items, mark: ',' };
+                let first = commas(firsts.as_slice());
+                let second = commas(counts.as_slice());
                 write!(f, "some {first} shape {second}")
             }
             Answer::Decided(true) => write!(f, "yes"),

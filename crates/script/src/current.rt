@@ -1,13 +1,24 @@
-use edges::{Fault, OffsetSize};
+use edges::OffsetSize;
 use table_grids::Dimension;
 
-// The grid that questions are asked of, as it was described: its sizes, and its edges or its axes
-// and their table. A grid whose lists could not be laid is refused.
+// The kinds of grid with one edge for each axis.
+#[derive(Clone, Copy)]
+pub enum LengthKind {
+    Regular,
+    Bounded,
+}
+
+// The kinds of grid over a table.
+#[derive(Clone, Copy)]
+pub enum TableKind {
+    Rectangular,
+    Rectilinear,
+}
+
+// The grid that questions are asked of, as it was described: its kind and its sizes, and its edges
+// or its axes and their table.
 #[derive(Drop)]
 pub enum Current {
-    Regular(Vec<u64>, Vec<u64>),
-    Bounded(Vec<u64>, Vec<u64>),
-    Rectangular(Vec<u64>, Vec<Dimension>, Vec<OffsetSize>),
-    Rectilinear(Vec<u64>, Vec<Dimension>, Vec<OffsetSize>),
-    Refused(Fault),
+    Lengths(LengthKind, Vec<u64>, Vec<u64>),
+    Tables(TableKind, Vec<u64>, Vec<Dimension>, Vec<OffsetSize>),
 }

@@ -1,13 +1,16 @@
-ghost use Rattle.std.specs.Prelude.{◌≡◌, IfOk, OnOk};
+ghost use Rattle.std.specs.Prelude.{◌≡◌, Some, Ok};
 ghost use Rattle.std.specs.Option.{option_map};
 ghost use Rattle.notation.specs.Texts.{texts};
-ghost use Rattle.script.specs.Tables.{bracketed as bracketed_in, laying, nothing_laid, fixed_more, runs_more, axes_laid, axes_in, Adds};
+ghost use Rattle.notation.specs.Lists.{Reads};
+ghost use Rattle.script.specs.Stops.{MakesOrStops};
+ghost use Rattle.script.specs.Tables.{bracketed as bracketed_in, laying, nothing_laid, fixed_more, runs_more, next_axis, axes_laid, axes_in, added, all_added, whole};
 
 use crate::listing::laid;
-use crate::tables::Tables;
+use crate::stop::Stop;
+use crate::tables::{AxisText, Tables};
 use edges::Run;
-use notation::{items, list, number};
-use std::alloc::{AllocError, Global};
+use notation::{ListError, items, list, number};
+use std::alloc::Global;
 use table_grids::Dimension;
 
 // The most entries of a table.
@@ -20,91 +23,80 @@ fn bracketed(text: &str) -> Option<&str>
     text.strip_prefix('[')?.strip_suffix(']')
 }
 
-impl Tables {
-    // No axis.
-    pub(crate) fn none(heap: Global) -> Tables
-        ensures { laying result ≡ nothing_laid }
-    {
-        Tables {
-            dimensions: Vec::new(heap),
-            table: Vec::new(heap),
-            fault: None,
-        }
+// The axis that a text writes.
+fn axis(heap: Global, text: &str) -> Result<AxisText, ListError>
+    ensures { (l : _) → Reads (added l) result (next_axis l text.now) }
+{
+    match bracketed(text) {
+        None => Ok(AxisText::Fixed(number(text).ok_or(ListError::NotAList)?)),
+        Some(runs) => Ok(AxisText::Runs(list(heap, runs)?)),
     }
+}
 
+// The axes that the texts write. An axis is no `Item` of a list: it owns its runs, so reading it can want memory.
+fn each_axis(heap: Global, words: &[&str]) -> Result<Vec<AxisText>, ListError>
+    ensures { (l : _) → Reads (λ v. all_added l v.items) result (axes_laid (texts words.now) l) }
+{
+    let mut axes = Vec::new(heap);
+    for word in words {
+        axes.push(axis(heap, word)?)?;
+    }
+    Ok(axes)
+}
+
+// The axes that a text writes.
+pub(crate) fn axes(heap: Global, text: &str) -> Result<Vec<AxisText>, ListError>
+    ensures { Reads (λ v. all_added nothing_laid v.items) result (axes_in text.now) }
+{
+    if text == "-" {
+        return Ok(Vec::new(heap));
+    }
+    let words = items(heap, text)?;
+    each_axis(heap, words.as_slice())
+}
+
+impl Tables {
     // One more axis, with one edge for every chunk.
-    fn add_fixed(&mut self, edge: u64) -> Result<(), AllocError>
-        ensures { OnOk result (laying self.new ≡ fixed_more (laying self.old) edge) }
+    fn add_fixed(&mut self, edge: u64) -> Result<(), Stop>
+        ensures { MakesOrStops (λ _. Ok (laying self.new)) result (Some (whole (fixed_more (laying self.old) edge))) }
     {
         self.dimensions.push(Dimension::Fixed(edge))?;
         Ok(())
     }
 
     // One more axis, with the edges to which these runs expand.
-    fn add_runs(&mut self, heap: Global, runs: &[Run]) -> Result<(), AllocError>
-        ensures { OnOk result (laying self.new ≡ runs_more (laying self.old) self.old.fault runs.now) }
+    fn add_runs(&mut self, heap: Global, runs: &[Run]) -> Result<(), Stop>
+        ensures { MakesOrStops (λ _. Ok (laying self.new)) result (Some (whole (runs_more (laying self.old) (laying self.old).fault runs.now))) }
     {
-        if self.fault.is_some() {
-            return Ok(());
-        }
         let first = self.table.len();
-        match laid(heap, runs, MOST_ENTRIES.saturating_sub(first))? {
-            Ok(entries) => {
-                let number = entries.len();
-                self.table.extend_from_slice(entries.as_slice())?;
-                self.dimensions.push(Dimension::Varying { first, number })?;
-                Ok(())
-            }
-            Err(fault) => {
-                self.fault = Some(fault);
-                Ok(())
-            }
-        }
+        let entries = laid(heap, runs, MOST_ENTRIES.saturating_sub(first))?;
+        let number = entries.len();
+        self.table.extend_from_slice(entries.as_slice())?;
+        self.dimensions.push(Dimension::Varying { first, number })?;
+        Ok(())
     }
 
-    // One more axis, as a text writes it; absent where the text writes none.
-    fn add(&mut self, heap: Global, text: &str) -> Result<Option<()>, AllocError>
-        ensures { Adds result (laying self.old) (laying self.new) text.now }
+    // One more axis.
+    fn add(&mut self, heap: Global, axis: &AxisText) -> Result<(), Stop>
+        ensures { MakesOrStops (λ _. Ok (laying self.new)) result (Some (whole (added (laying self.old) axis.now))) }
     {
-        match bracketed(text) {
-            None => {
-                let Some(edge) = number(text) else {
-                    return Ok(None);
-                };
-                self.add_fixed(edge)?;
-                Ok(Some(()))
-            }
-            Some(inner) => {
-                let Some(runs) = list::<Run>(heap, inner)? else {
-                    return Ok(None);
-                };
-                self.add_runs(heap, runs.as_slice())?;
-                Ok(Some(()))
-            }
+        match axis {
+            AxisText::Fixed(edge) => self.add_fixed(*edge),
+            AxisText::Runs(runs) => self.add_runs(heap, runs.as_slice()),
         }
     }
 }
 
-// The axes that the texts write.
-fn each_axis(heap: Global, words: &[&str]) -> Result<Option<Tables>, AllocError>
-    ensures { IfOk result (λ o. option_map laying o ≡ axes_laid (texts words.now) nothing_laid) }
+// The axes, laid one after another into one table.
+pub(crate) fn laid_axes(heap: Global, axes: &[AxisText]) -> Result<Tables, Stop>
+    ensures { MakesOrStops (λ t. Ok (laying t)) result (Some (whole (all_added nothing_laid axes.now))) }
 {
-    let mut tables = Tables::none(heap);
-    for word in words {
-        let Some(()) = tables.add(heap, word)? else {
-            return Ok(None);
-        };
+    let mut tables = Tables {
+        dimensions: Vec::new(heap),
+        table: Vec::new(heap),
+    };
+    for axis in axes {
+        tables.add(heap, axis)?;
     }
-    Ok(Some(tables))
-}
-
-// The axes that a text writes, laid one after another into one table.
-pub(crate) fn axes(heap: Global, text: &str) -> Result<Option<Tables>, AllocError>
-    ensures { IfOk result (λ o. option_map laying o ≡ axes_in text.now) }
-{
-    if text == "-" {
-        return Ok(Some(Tables::none(heap)));
-    }
-    let words = items(heap, text)?;
-    each_axis(heap, words.as_slice())
+    Ok(tables)
 }

@@ -2,7 +2,7 @@
 #![tactic(auto)]
 
 mod answer;
-mod argument;
+mod arguments;
 mod current;
 mod laying;
 mod line;
@@ -11,9 +11,10 @@ mod making;
 mod name;
 mod program;
 mod question;
+mod stop;
 mod tables;
 
 pub use answer::Answer;
-pub use current::Current;
+pub use current::{Current, LengthKind, TableKind};
 pub use line::answer_line;
 pub use program::run_script;

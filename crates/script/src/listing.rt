@@ -1,60 +1,48 @@
-ghost use Rattle.std.specs.Prelude.{◌≡◌, ℕ, List, IfOk};
+ghost use Rattle.std.specs.Prelude.{ℕ, List, Some, Ok};
 ghost use Rattle.notation.specs.Texts.{texts};
 ghost use Rattle.edges.specs.Answers.{lay_answer, compress_answer};
-ghost use Rattle.script.specs.Lines.{items_in, laid_reply, compressed_reply, list_reply};
-ghost use Rattle.script.specs.Replies.{Reply, meant};
+ghost use Rattle.script.specs.Lines.{laid_reply, compressed_reply, list_reply};
+ghost use Rattle.script.specs.Replies.{Reply};
+ghost use Rattle.script.specs.Stops.{Replies, MakesOrStops};
 
 use crate::answer::Answer;
-use crate::argument::{number_field, two};
-use edges::{Fault, OffsetSize, Run, compress, lay};
+use crate::arguments::{Arguments, number_field};
+use crate::stop::Stop;
+use edges::{OffsetSize, Run, compress, lay};
 use notation::{Item, list};
-use std::alloc::{AllocError, Global};
+use std::alloc::Global;
 
 // The most entries that a command's room may have.
 const MOST_ROOM: u64 = 65536;
 
-// A command over a list of items, with room for its answer.
+// A command over a list of items, with room for its answer. The heap, the items and the room stay three: a struct of them
+// would be generic over the item, for three functions that take it apart.
 pub(crate) trait ListCommand<T> {
     ghost replies: { List T → ℕ → Reply };
 
-    fn carry_out(heap: Global, items: &[T], room: usize) -> Result<Answer, AllocError>
-        ensures { IfOk result (λ a. meant a ≡ replies items.now room) };
+    fn carry_out(heap: Global, items: &[T], room: usize) -> Result<Answer, Stop>
+        ensures { Replies result (replies items.now room) };
 }
 
-// The table of runs laid into this many entries, or the refusal.
-pub(crate) fn laid(
-    heap: Global,
-    runs: &[Run],
-    room: usize,
-) -> Result<Result<Vec<OffsetSize>, Fault>, AllocError>
-    ensures { IfOk result (λ o. items_in o ≡ lay_answer runs.now room) }
+// The table of runs laid into this many entries.
+pub(crate) fn laid(heap: Global, runs: &[Run], room: usize) -> Result<Vec<OffsetSize>, Stop>
+    ensures { MakesOrStops (λ v. Ok v.items) result (Some (lay_answer runs.now room)) }
 {
     let mut table = vec![in heap; OffsetSize { offset: 0, size: 0 }; room]?;
-    match lay(runs, &mut table) {
-        Ok(number) => {
-            table.truncate(number);
-            Ok(Ok(table))
-        }
-        Err(fault) => Ok(Err(fault)),
-    }
+    let number = lay(runs, &mut table)?;
+    table.truncate(number);
+    Ok(table)
 }
 
-// The runs of edges compressed into this many entries, or the refusal.
-fn compressed(
-    heap: Global,
-    edges: &[u64],
-    room: usize,
-) -> Result<Result<Vec<Run>, Fault>, AllocError>
-    ensures { IfOk result (λ o. items_in o ≡ compress_answer edges.now room) }
+// The runs of edges compressed into this many entries. One text for this and `laid` wants a trait
+// for two calls and two kinds of entry, and is no plainer.
+fn compressed(heap: Global, edges: &[u64], room: usize) -> Result<Vec<Run>, Stop>
+    ensures { MakesOrStops (λ v. Ok v.items) result (Some (compress_answer edges.now room)) }
 {
     let mut place = vec![in heap; Run::Single(0); room]?;
-    match compress(edges, &mut place) {
-        Ok(number) => {
-            place.truncate(number);
-            Ok(Ok(place))
-        }
-        Err(fault) => Ok(Err(fault)),
-    }
+    let number = compress(edges, &mut place)?;
+    place.truncate(number);
+    Ok(place)
 }
 
 pub(crate) struct Lay;
@@ -64,43 +52,30 @@ pub(crate) struct Compress;
 impl ListCommand<Run> for Lay {
     ghost replies = { laid_reply };
 
-    fn carry_out(heap: Global, items: &[Run], room: usize) -> Result<Answer, AllocError> {
-        match laid(heap, items, room)? {
-            Ok(table) => Ok(Answer::Entries(table)),
-            Err(fault) => Ok(Answer::Refused(fault)),
-        }
+    fn carry_out(heap: Global, items: &[Run], room: usize) -> Result<Answer, Stop> {
+        Ok(Answer::Entries(laid(heap, items, room)?))
     }
 }
 
 impl ListCommand<u64> for Compress {
     ghost replies = { compressed_reply };
 
-    fn carry_out(heap: Global, items: &[u64], room: usize) -> Result<Answer, AllocError> {
-        match compressed(heap, items, room)? {
-            Ok(runs) => Ok(Answer::Runs(runs)),
-            Err(fault) => Ok(Answer::Refused(fault)),
-        }
+    fn carry_out(heap: Global, items: &[u64], room: usize) -> Result<Answer, Stop> {
+        Ok(Answer::Runs(compressed(heap, items, room)?))
     }
 }
 
 // The answer to a command over a list, by the words after its name.
-pub(crate) fn answer_list<T: Item, C: ListCommand<T>>(
-    heap: Global,
-    arguments: &[&str],
-) -> Result<Answer, AllocError>
-    ensures { IfOk result (λ a. meant a ≡ list_reply T.Item.reads C.ListCommand.replies (texts arguments.now)) }
+pub(crate) fn answer_list<T: Item, C: ListCommand<T>>(arguments: Arguments) -> Result<Answer, Stop>
+    ensures { Replies result (list_reply T.Item.reads C.ListCommand.replies (texts arguments.entry.words.now)) }
 {
-    let Some((items, room)) = two(arguments) else {
-        return Ok(Answer::NotUnderstood);
+    let [items, room] = arguments.words else {
+        return Err(Stop::NotUnderstood);
     };
-    let Some(items) = list::<T>(heap, items)? else {
-        return Ok(Answer::NotUnderstood);
-    };
-    let Some(room) = number_field("room", room) else {
-        return Ok(Answer::NotUnderstood);
-    };
+    let items = list::<T>(arguments.heap, items)?;
+    let room = number_field("room", room).ok_or(Stop::NotUnderstood)?;
     if room > MOST_ROOM {
-        return Ok(Answer::RoomTooLarge);
+        return Err(Stop::RoomTooLarge);
     }
-    C::carry_out(heap, items.as_slice(), room as usize)
+    C::carry_out(arguments.heap, items.as_slice(), room as usize)
 }

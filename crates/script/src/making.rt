@@ -1,18 +1,20 @@
-ghost use Rattle.std.specs.Prelude.{◌≡◌, [], IfOk};
+ghost use Rattle.std.specs.Prelude.{◌≡◌, [], Ok};
 ghost use Rattle.std.specs.Option.{option_map};
-ghost use Rattle.notation.specs.Texts.{texts};
-ghost use Rattle.table_grids.specs.Kinds.{new_rectangular, new_rectilinear};
-ghost use Rattle.script.specs.Tables.{laying};
-ghost use Rattle.script.specs.Lines.{axes_making, current_axes, current_making, kind_making, making_in, outcome};
+ghost use Rattle.notation.specs.Lists.{list_in};
+ghost use Rattle.notation.specs.Texts.{number_in, texts};
+ghost use Rattle.script.specs.Stops.{MakesOrStops};
+ghost use Rattle.script.specs.Tables.{axes_in};
+ghost use Rattle.script.specs.Lines.{axes_making, current_axes, current_making, kind_making, lengths_making, making_in, outcome, tables_making};
 
-use crate::argument::{numbers_field, three};
-use crate::current::Current;
-use crate::laying::axes;
+use crate::arguments::Arguments;
+use crate::current::{Current, LengthKind, TableKind};
+use crate::laying::{axes, laid_axes};
+use crate::stop::Stop;
 use crate::tables::Tables;
 use edges::Fault;
 use notation::{field, list};
 use regular_grids::{Regular, RegularBounded};
-use std::alloc::{AllocError, Global};
+use std::alloc::Global;
 use table_grids::{Rectangular, Rectilinear};
 
 impl Current {
@@ -20,23 +22,23 @@ impl Current {
     pub fn none(heap: Global) -> Current
         ensures { current_axes result ≡ [] }
     {
-        Current::Regular(Vec::new(heap), Vec::new(heap))
+        Current::Lengths(LengthKind::Regular, Vec::new(heap), Vec::new(heap))
     }
 
-    // What the making of this grid answers.
-    pub(crate) fn made(&self) -> Result<(), Fault>
+    // What the making of this grid answers. Each kind of grid is a type, so each has an arm.
+    fn made(&self) -> Result<(), Fault>
         ensures { result ≡ (outcome (current_making self.now)).0 }
     {
         match self {
-            Current::Regular(sizes, edges) => {
+            Current::Lengths(LengthKind::Regular, sizes, edges) => {
                 let (_, answer) = Regular::new(sizes.as_slice(), edges.as_slice());
                 answer
             }
-            Current::Bounded(sizes, edges) => {
+            Current::Lengths(LengthKind::Bounded, sizes, edges) => {
                 let (_, answer) = RegularBounded::new(sizes.as_slice(), edges.as_slice());
                 answer
             }
-            Current::Rectangular(sizes, axes, table) => {
+            Current::Tables(TableKind::Rectangular, sizes, axes, table) => {
                 let (_, answer) = Rectangular::new(
                     sizes.as_slice(),
                     axes.as_slice(),
@@ -44,7 +46,7 @@ impl Current {
                 );
                 answer
             }
-            Current::Rectilinear(sizes, axes, table) => {
+            Current::Tables(TableKind::Rectilinear, sizes, axes, table) => {
                 let (_, answer) = Rectilinear::new(
                     sizes.as_slice(),
                     axes.as_slice(),
@@ -52,85 +54,51 @@ impl Current {
                 );
                 answer
             }
-            Current::Refused(fault) => Err(*fault),
         }
     }
 }
 
-impl Tables {
-    // The rectangular grid over these tables.
-    fn rectangular(self, sizes: Vec<u64>) -> Current
-        ensures { current_making result ≡ axes_making (new_rectangular sizes.items) (laying self) }
-    {
-        let Tables {
-            dimensions,
-            table,
-            fault,
-        } = self;
-        match fault {
-            None => Current::Rectangular(sizes, dimensions, table),
-            Some(fault) => Current::Refused(fault),
-        }
-    }
-
-    // The rectilinear grid over these tables.
-    fn rectilinear(self, sizes: Vec<u64>) -> Current
-        ensures { current_making result ≡ axes_making (new_rectilinear sizes.items) (laying self) }
-    {
-        let Tables {
-            dimensions,
-            table,
-            fault,
-        } = self;
-        match fault {
-            None => Current::Rectilinear(sizes, dimensions, table),
-            Some(fault) => Current::Refused(fault),
-        }
-    }
+// A grid with one edge for each axis, as its sizes and a text describe it.
+fn lengths_of(heap: Global, kind: LengthKind, sizes: Vec<u64>, spec: &str) -> Result<Current, Stop>
+    ensures { MakesOrStops current_making result (option_map (lengths_making kind sizes.items) (list_in number_in spec.now)) }
+{
+    let edges = list(heap, spec)?;
+    Ok(Current::Lengths(kind, sizes, edges))
 }
 
-// The grid of a kind, as its sizes and a text describe it.
-fn grid_of(
-    heap: Global,
-    kind: &str,
-    sizes: Vec<u64>,
-    spec: &str,
-) -> Result<Option<Current>, AllocError>
-    ensures { IfOk result (λ o. option_map current_making o ≡ kind_making kind.now sizes.items spec.now) }
+// A grid over a table, as its sizes and a text describe it.
+fn tables_of(heap: Global, kind: TableKind, sizes: Vec<u64>, spec: &str) -> Result<Current, Stop>
+    ensures { MakesOrStops current_making result (option_map (axes_making (tables_making kind sizes.items)) (axes_in spec.now)) }
+{
+    let axes = axes(heap, spec)?;
+    let Tables { dimensions, table } = laid_axes(heap, axes.as_slice())?;
+    Ok(Current::Tables(kind, sizes, dimensions, table))
+}
+
+// A grid, as the name of its kind, its sizes and a text describe it. The name is read from a line, so it is matched, here
+// alone; a struct of the sizes and the text would be made to be taken apart at once.
+fn grid_of(heap: Global, kind: &str, sizes: Vec<u64>, spec: &str) -> Result<Current, Stop>
+    ensures { MakesOrStops current_making result (kind_making kind.now sizes.items spec.now) }
 {
     match kind {
-        "regular" => match list::<u64>(heap, spec)? {
-            Some(edges) => Ok(Some(Current::Regular(sizes, edges))),
-            None => Ok(None),
-        },
-        "bounded" => match list::<u64>(heap, spec)? {
-            Some(edges) => Ok(Some(Current::Bounded(sizes, edges))),
-            None => Ok(None),
-        },
-        "rectangular" => match axes(heap, spec)? {
-            Some(tables) => Ok(Some(tables.rectangular(sizes))),
-            None => Ok(None),
-        },
-        "rectilinear" => match axes(heap, spec)? {
-            Some(tables) => Ok(Some(tables.rectilinear(sizes))),
-            None => Ok(None),
-        },
-        _ => Ok(None),
+        "regular" => lengths_of(heap, LengthKind::Regular, sizes, spec),
+        "bounded" => lengths_of(heap, LengthKind::Bounded, sizes, spec),
+        "rectangular" => tables_of(heap, TableKind::Rectangular, sizes, spec),
+        "rectilinear" => tables_of(heap, TableKind::Rectilinear, sizes, spec),
+        _ => Err(Stop::NotUnderstood),
     }
 }
 
-// `grid KIND sizes=LIST spec=TEXT`: the grid that it describes.
-pub(crate) fn make(heap: Global, arguments: &[&str]) -> Result<Option<Current>, AllocError>
-    ensures { IfOk result (λ o. option_map current_making o ≡ making_in (texts arguments.now)) }
+// `grid KIND sizes=LIST spec=TEXT`: the grid that it makes.
+pub(crate) fn make(arguments: Arguments) -> Result<Current, Stop>
+    ensures { MakesOrStops (λ grid. Ok (current_axes grid)) result (making_in (texts arguments.entry.words.now)) }
 {
-    let Some((kind, sizes, spec)) = three(arguments) else {
-        return Ok(None);
+    let [kind, sizes, spec] = arguments.words else {
+        return Err(Stop::NotUnderstood);
     };
-    let Some(sizes) = numbers_field(heap, "sizes", sizes)? else {
-        return Ok(None);
-    };
-    let Some(spec) = field("spec", spec) else {
-        return Ok(None);
-    };
-    grid_of(heap, kind, sizes, spec)
+    let sizes = arguments.numbers_field("sizes", sizes)?;
+    let spec = field("spec", spec).ok_or(Stop::NotUnderstood)?;
+    let grid = grid_of(arguments.heap, kind, sizes, spec)?;
+    grid.made()?;
+    Ok(grid)
 }

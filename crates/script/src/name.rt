@@ -1,28 +1,20 @@
 ghost use Rattle.std.specs.Prelude.{◌≡◌};
 ghost use Rattle.script.specs.Names.{command_named};
+ghost use Rattle.script.specs.Stops.{understood};
 
-// A shape that a grid can be asked for.
-#[derive(Clone, Copy)]
-pub(crate) enum Shape {
-    Array,
-    Grid,
-}
-
-// What a grid can be asked about a list of numbers, with a list for an answer.
-#[derive(Clone, Copy)]
-pub(crate) enum About {
-    ChunkShape,
-    ChunkOrigin,
-    ChunkIndices,
-    ChunkElementIndices,
-}
+use crate::stop::Stop;
+use std::str::FromStr;
 
 // What a grid can be asked.
 #[derive(Clone, Copy)]
 pub(crate) enum Question {
     Dimensionality,
-    Shape(Shape),
-    Numbers(About),
+    ArrayShape,
+    GridShape,
+    ChunkShape,
+    ChunkOrigin,
+    ChunkIndices,
+    ChunkElementIndices,
     Subset,
     Inbounds,
     ChunksIn,
@@ -38,26 +30,29 @@ pub(crate) enum Command {
     Ask(Question),
 }
 
-// The command of this name.
-pub(crate) fn command_named(name: &str) -> Option<Command>
-    ensures { result ≡ command_named name.now }
-{
-    let command = match name {
-        "lay" => Command::Lay,
-        "compress" => Command::Compress,
-        "grid" => Command::Grid,
-        "dimensionality" => Command::Ask(Question::Dimensionality),
-        "array_shape" => Command::Ask(Question::Shape(Shape::Array)),
-        "grid_shape" => Command::Ask(Question::Shape(Shape::Grid)),
-        "chunk_shape" => Command::Ask(Question::Numbers(About::ChunkShape)),
-        "chunk_origin" => Command::Ask(Question::Numbers(About::ChunkOrigin)),
-        "subset" => Command::Ask(Question::Subset),
-        "chunk_indices" => Command::Ask(Question::Numbers(About::ChunkIndices)),
-        "chunk_element_indices" => Command::Ask(Question::Numbers(About::ChunkElementIndices)),
-        "inbounds" => Command::Ask(Question::Inbounds),
-        "chunks_in" => Command::Ask(Question::ChunksIn),
-        "fits" => Command::Ask(Question::Fits),
-        _ => return None,
-    };
-    Some(command)
+impl FromStr for Command {
+    type Err = Stop;
+
+    ghost from_str_gives = { λ name result. result ≡ understood (command_named name) };
+
+    fn from_str(name: &str) -> Result<Command, Stop> {
+        let command = match name {
+            "lay" => Command::Lay,
+            "compress" => Command::Compress,
+            "grid" => Command::Grid,
+            "dimensionality" => Command::Ask(Question::Dimensionality),
+            "array_shape" => Command::Ask(Question::ArrayShape),
+            "grid_shape" => Command::Ask(Question::GridShape),
+            "chunk_shape" => Command::Ask(Question::ChunkShape),
+            "chunk_origin" => Command::Ask(Question::ChunkOrigin),
+            "subset" => Command::Ask(Question::Subset),
+            "chunk_indices" => Command::Ask(Question::ChunkIndices),
+            "chunk_element_indices" => Command::Ask(Question::ChunkElementIndices),
+            "inbounds" => Command::Ask(Question::Inbounds),
+            "chunks_in" => Command::Ask(Question::ChunksIn),
+            "fits" => Command::Ask(Question::Fits),
+            _ => return Err(Stop::NotUnderstood),
+        };
+        Ok(command)
+    }
 }

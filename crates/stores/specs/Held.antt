@@ -39,6 +39,13 @@ out_of_range = refusal Range Store
 abbrev pub no_slot : Fault
 no_slot = refusal Full Store
 
+-- Refusal 11 unless a number is below its bound, and unless a chunk is below the limit and a place below the width.
+abbrev pub range_answer : ℕ → ℕ → Result (Unit {0}) Fault
+range_answer n bound = cond (nat_lt n bound) (Ok tt) (Err out_of_range)
+
+abbrev pub place_answer : ℕ → ℕ → ℕ → ℕ → Result (Unit {0}) Fault
+place_answer c limit p width = cond (nat_lt c limit && nat_lt p width) (Ok tt) (Err out_of_range)
+
 -- a chunk below the limit, and a place below the width
 abbrev pub inside : {E : Type 0} → Held E → ℕ → ℕ → Bool
 inside h c p = nat_lt c h.limit && nat_lt p h.width

@@ -23,7 +23,7 @@ impl Element for Thickness {
     }
 }
 
-// A flaw of the scanned material: what sort it is, and how severe.
+// A flaw of the scanned material: what sort it is, by the number that the scanner gives it, and how severe.
 #[derive(Clone, Copy, PartialEq, Debug)]
 pub struct Flaw {
     pub sort: u8,

@@ -13,7 +13,8 @@ pub trait ReadStore {
 
     ghost sound: { (s : Self) → Sound (held s) };
 
-    // The fill value of the kind of element: what an absent chunk reads as.
+    // The fill value of the kind of element: what an absent chunk reads as. Each store writes it, since no body here could
+    // show what the store means.
     fn fill(&self) -> Self::Item
         ensures held { result ≡ (held self.now).fill }
         ensures kind { result ≡ Self.Item.Element.blank };

@@ -1,5 +1,5 @@
 // Prints how many times a second `chunk_indices` is answered on tables of growing length.
-// Without an argument it prints how to call it, so that the gate does not measure time.
+// Without an argument it prints how to call it, since a measured time is never the same twice.
 #![tactic(auto)]
 
 use edges::{OffsetSize, Run, lay};
@@ -43,10 +43,8 @@ fn measure(rt: &HostRuntime, number: usize, questions: u64) -> anyhow::Result<()
 }
 
 fn questions(rt: &HostRuntime) -> anyhow::Result<Option<u64>> {
-    for word in env::args(rt)?.skip(1) {
-        return Ok(word.as_str().parse().ok());
-    }
-    Ok(None)
+    let word = env::args(rt)?.nth(1);
+    Ok(word.and_then(|word| word.as_str().parse().ok()))
 }
 
 fn main(rt: HostRuntime) -> anyhow::Result<()> {

@@ -20,9 +20,5 @@ pub(crate) fn row(offset: u64, size: u64) -> OffsetSize {
 
 // What a making answers that is refused at an axis; 255 names none.
 pub(crate) fn refused(cause: Cause, axis: u8) -> Result<(), Fault> {
-    Err(Fault {
-        cause,
-        layer: Layer::Grid,
-        axis,
-    })
+    Err(Fault::on_axis(cause, Layer::Grid, axis))
 }

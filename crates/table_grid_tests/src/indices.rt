@@ -24,11 +24,8 @@ fn index(index: u64, chunk: u64, element: u64, inbounds: bool) -> IndexCase {
 // The place of an index in its chunk, where it has one.
 fn element<'a>(grid: &Rectilinear<'a>, index: u64) -> Option<u64> {
     let mut place = [99];
-    match chunk_element_indices(grid, &[index], &mut place) {
-        Ok(Some(_)) => Some(place[0]),
-        Ok(None) => None,
-        Err(_) => None,
-    }
+    chunk_element_indices(grid, &[index], &mut place).ok()??;
+    Some(place[0])
 }
 
 #[test]
@@ -90,8 +87,8 @@ fn around_each_offset_of_a_long_table(rt: HostRuntime) {
     };
     let rows = table;
     let (grid, _) = Rectilinear::new(&[2405], &[span], &table);
-    let mut chunk = 0;
-    for row in &rows {
+    for (place, row) in rows.iter().enumerate() {
+        let chunk = place as u64;
         assert_eq!(rt; grid.chunk_at(0, row.offset), Some(chunk));
         assert_eq!(rt; grid.chunk_at(0, row.offset.saturating_add(1)), Some(chunk));
         let last = row.offset.saturating_add(row.size.saturating_sub(1));
@@ -102,7 +99,6 @@ fn around_each_offset_of_a_long_table(rt: HostRuntime) {
                 Some(chunk - 1)
             );
         }
-        chunk = chunk.saturating_add(1);
     }
     assert_eq!(rt; grid.chunk_at(0, 2404), Some(999));
     assert_eq!(rt; grid.chunk_at(0, 2405), None);

@@ -1,12 +1,12 @@
-use Rattle.std.proofs.Common.{◌≡◌, ℕ, ◌+◌, ◌*◌, ◌^◌, ◌<◌, ◌≤◌, Bool, true, false, ◌&&◌, ◌||◌, eqb, List, length, get_or, drop, sym, refl, ap, ◌∙◌, zero-le, zero-add, arith}
+use Rattle.std.proofs.Common.{◌≡◌, ℕ, ◌+◌, ◌*◌, ◌^◌, ◌<◌, ◌≤◌, Bool, true, false, ◌&&◌, ◌||◌, eqb, List, length, get_or, drop, Some, None, Ok, Err, Option, Result, sym, refl, ap, ◌∙◌, arith}
 use Rattle.std.proofs.lemmas.List.{drop_more, at_drop_all}
 use Rattle.std.proofs.lemmas.Bool.{eq-eqb, ne_eqb, cond-true}
 use Rattle.edges.specs.declared.table.OffsetSize.{OffsetSize}
+use Rattle.edges.specs.declared.fault.Cause.{Cause}
 use Rattle.edges.specs.Answers.{no_entry}
 use Rattle.edges.specs.Runs.{total, has_zero}
-use Rattle.table_grids.specs.declared.sum_rule.SumRule.{SumRule}
 use Rattle.table_grids.specs.Spans.{sizes}
-use Rattle.table_grids.specs.Causes.{laid, sum_cause, entries_cause}
+use Rattle.table_grids.specs.Causes.{laid, sum_cause, unless_cause, entries_cause}
 
 or_assoc : (a b c : Bool) → ((a || b) || c) ≡ (a || (b || c))
 or_assoc true b c = refl
@@ -16,8 +16,14 @@ or_false : (a : Bool) → (a || false) ≡ a
 or_false true = refl
 or_false false = refl
 
-pub zero_kept : (z : Bool) (n : ℕ) → (n ≡ 0 → ⊥) → (z || eqb n 0) ≡ z
-zero_kept z n h = ap (λ b. z || b) (ne_eqb n 0 h) ∙ or_false z
+-- what a check answers says what the cause is
+pub cause_none : (o : Option Cause) → ◌≡◌ {A = Result (Unit {0}) Cause} (Ok tt) (unless_cause o) → o ≡ None
+cause_none None h = refl
+cause_none (Some c) h = absurd (cc)
+
+pub cause_some : (o : Option Cause) (c : Cause) → ◌≡◌ {A = Result (Unit {0}) Cause} (Err c) (unless_cause o) → o ≡ Some c
+cause_some None c h = absurd (cc)
+cause_some (Some d) c h = cc
 
 -- What a pass over the entries has found so far: the end, and whether an edge is 0.
 pub record Passed (es : List OffsetSize) (i end : ℕ) (zeroed : Bool) : Type 0 where
@@ -25,9 +31,6 @@ pub record Passed (es : List OffsetSize) (i end : ℕ) (zeroed : Bool) : Type 0 
   pub zero_so_far : (zeroed || has_zero (sizes (drop i es))) ≡ has_zero (sizes es)
   pub total_so_far : end + total (sizes (drop i es)) ≡ total (sizes es)
   pub small : end ≤ i * 18446744073709551616
-
-pub passed_none : (es : List OffsetSize) → Passed es 0 0 false
-passed_none es = record { laid_so_far = refl; zero_so_far = refl; total_so_far = zero-add (total (sizes es)); small = zero-le }
 
 module _ (es : List OffsetSize) (i end : ℕ) (zeroed : Bool) (p : Passed es i end zeroed) where
   module _ (l : i < length es) where
@@ -71,8 +74,8 @@ module _ (es : List OffsetSize) (i end : ℕ) (zeroed : Bool) (p : Passed es i e
         omega arith
 
     -- the cause, by what the pass has found
-    pub cause_is : (rule : SumRule) (n : ℕ) → entries_cause rule n es ≡ sum_cause rule n (length es) zeroed end
-    cause_is rule n =
+    pub cause_is : (keeps : ℕ → ℕ → Bool) (n : ℕ) → entries_cause keeps n es ≡ sum_cause keeps n (length es) zeroed end
+    cause_is keeps n =
         cond-true (laid 0 es) _ _ all_laid
-        ∙ ap (λ b. sum_cause rule n (length es) b (total (sizes es))) all_zero
-        ∙ ap (sum_cause rule n (length es) zeroed) all_total
+        ∙ ap (λ b. sum_cause keeps n (length es) b (total (sizes es))) all_zero
+        ∙ ap (sum_cause keeps n (length es) zeroed) all_total

@@ -4,7 +4,6 @@ use Rattle.std.proofs.lemmas.Bool.{cases_lt}
 use Rattle.edges.specs.declared.table.OffsetSize.{OffsetSize}
 use Rattle.edges.specs.Answers.{no_entry}
 use Rattle.axes.specs.Axes.{Axis, edge_at, origin, Contains, chunk_of, varying}
-use Rattle.axes.specs.AxisLaws.{nth_below}
 use Rattle.axes.specs.ChunkLaws.{origin_mono, before_later, chunk_contains, chunk_none}
 use Rattle.table_grids.specs.Spans.{sizes}
 use Rattle.table_grids.specs.Valid.{ValidSpan, size_at, origin_sum, end_sum, span_lawful}
@@ -40,13 +39,6 @@ module _ (n : ℕ) (es : List OffsetSize) (v : ValidSpan n es) where
       let s = end_sum n (sizes es) in
       let f = v.end_fits in
       omega arith
-
-  -- the search begins with the whole span
-  pub whole_span : (i : ℕ) → Between (varying n (sizes es)) i 0 (length es)
-  whole_span i k (e, p, low, high) =
-      let b = nth_below (sizes es) k e p in
-      let s : length (sizes es) ≡ length es = length-map es _ in
-      (omega arith, omega arith)
 
   module _ (i low high m : ℕ) (b : Between (varying n (sizes es)) i low high) (l : m < length es) where
     pub lower_half : i < (get_or es m no_entry).offset → Between (varying n (sizes es)) i low m

@@ -19,9 +19,8 @@ use Rattle.grids.proofs.Asked.{nth_here}
 use Rattle.grids.proofs.Never.{never}
 use Rattle.table_grids.specs.declared.dimension.Dimension.{Dimension}
 use Rattle.table_grids.specs.declared.dimension.Dimension.TheVariants.{Fixed}
-use Rattle.table_grids.specs.declared.sum_rule.SumRule.{SumRule}
 use Rattle.table_grids.specs.Spans.{span, sizes, axis_of}
-use Rattle.table_grids.specs.Causes.{laid, keeps_rule, sum_cause, entries_cause, axis_cause, new_table}
+use Rattle.table_grids.specs.Causes.{laid, sum_cause, entries_cause, axis_cause, new_table}
 use Rattle.table_grids.specs.LaidSpans.{LaidAt, LaidAccepted}
 use Rattle.table_grids.proofs.NewLaws.{axis_at, refused_cause, made_axes}
 
@@ -61,21 +60,21 @@ cut : (front es rest : List OffsetSize) → span (front ++ (es ++ rest)) (length
 cut front es rest = ap (take (length es)) (drop-append_seam front (es ++ rest)) ∙ take-append_seam es rest
 
 -- entries with these edges, laid from 0, are refused for their sum alone
-entries_laid : (rule : SumRule) (n : ℕ) (xs : List ℕ) → 1 ≤ length (offsets 0 xs) → has_zero xs ≡ false → total xs < 2 ^ 64
-    → entries_cause rule n (offsets 0 xs) ≡ cond (keeps_rule rule n (total xs)) None (Some Sum)
-entries_laid rule n xs some positive fits =
+entries_laid : (keeps : ℕ → ℕ → Bool) (n : ℕ) (xs : List ℕ) → 1 ≤ length (offsets 0 xs) → has_zero xs ≡ false → total xs < 2 ^ 64
+    → entries_cause keeps n (offsets 0 xs) ≡ cond (keeps n (total xs)) None (Some Sum)
+entries_laid keeps n xs some positive fits =
     cond-true (laid 0 (offsets 0 xs)) _ _ (laid-offsets 0 xs)
-    ∙ ap (λ ys. sum_cause rule n (length (offsets 0 xs)) (has_zero ys) (total ys)) (sizes_of_offsets 0 xs)
+    ∙ ap (λ ys. sum_cause keeps n (length (offsets 0 xs)) (has_zero ys) (total ys)) (sizes_of_offsets 0 xs)
     ∙ cond-false (has_zero xs) _ _ positive
     ∙ cond-true (ltb (total xs) (2 ^ 64)) _ _ (lt-ltb _ _ fits)
-    ∙ ap (λ b. cond (b && keeps_rule rule n (total xs)) None (Some Sum)) (lt-ltb 0 (length (offsets 0 xs)) some)
+    ∙ ap (λ b. cond (b && keeps n (total xs)) None (Some Sum)) (lt-ltb 0 (length (offsets 0 xs)) some)
 
 -- such a cause is 4, where the rule is broken
 sum_broken : (b : Bool) (c : Cause) → cond b None (Some Sum) ≡ Some c → (c ≡ Sum) × (b ≡ false)
 sum_broken true c h = never (cc)
 sum_broken false c h = ((cc), refl)
 
-module _ (rule : SumRule) (ds : List Dimension) (t : List OffsetSize) (a : ℕ) (rs : List Run) (p : LaidAt ds t a rs) where
+module _ (keeps : ℕ → ℕ → Bool) (ds : List Dimension) (t : List OffsetSize) (a : ℕ) (rs : List Run) (p : LaidAt ds t a rs) where
   span_is : span t (length p.front) (length p.entries) ≡ offsets 0 (expand rs)
   span_is =
       ap (λ u. span u (length p.front) (length p.entries)) p.there ∙ cut p.front p.entries p.rest ∙ (lay_ok rs p.room p.entries p.laid).2
@@ -87,14 +86,14 @@ module _ (rule : SumRule) (ds : List Dimension) (t : List OffsetSize) (a : ℕ) 
       let g = length-append p.entries p.rest in
       omega arith
 
-  laid_cause : (n : ℕ) → axis_cause rule t n (get_or ds a (Fixed 0)) ≡ cond (keeps_rule rule n (total (expand rs))) None (Some Sum)
+  laid_cause : (n : ℕ) → axis_cause keeps t n (get_or ds a (Fixed 0)) ≡ cond (keeps n (total (expand rs))) None (Some Sum)
   laid_cause n =
       let q = lay_ok rs p.room p.entries p.laid in
       let some : 1 ≤ length (offsets 0 (expand rs)) = subst (λ (es : List OffsetSize). 1 ≤ length es) q.2 p.nonempty in
-      ap (axis_cause rule t n) p.described
+      ap (axis_cause keeps t n) p.described
       ∙ cond-true (leb (length p.front + length p.entries) (length t)) _ _ (le-leb _ _ within)
-      ∙ ap (entries_cause rule n) span_is
-      ∙ entries_laid rule n (expand rs) some (edges_positive rs q.0) q.1
+      ∙ ap (entries_cause keeps n) span_is
+      ∙ entries_laid keeps n (expand rs) some (edges_positive rs q.0) q.1
 
   laid_axis : (n : ℕ) → axis_of t n (get_or ds a (Fixed 0)) ≡ varying n (expand rs)
   laid_axis n =
@@ -109,23 +108,23 @@ apart : {B : Type 0} (f : Fault) → ◌≡◌ {A = Result (Unit {0}) Fault} (Ok
 apart f h = never (cc)
 
 -- what `lay` wrote is accepted, but for its sum
-pub laid_accepted : (rule : SumRule) (ns : List ℕ) (ds : List Dimension) (t : List OffsetSize) (xs : List Axis) (r : Result (Unit {0}) Fault)
-    → Makes r xs (new_table rule ns ds t) → LaidAccepted rule ns ds t xs r
-laid_accepted rule ns ds t xs r made a rs l p = go (new_table rule ns ds t) refl made
+pub laid_accepted : (keeps : ℕ → ℕ → Bool) (ns : List ℕ) (ds : List Dimension) (t : List OffsetSize) (xs : List Axis) (r : Result (Unit {0}) Fault)
+    → Makes r xs (new_table keeps ns ds t) → LaidAccepted keeps ns ds t xs r
+laid_accepted keeps ns ds t xs r made a rs l p = go (new_table keeps ns ds t) refl made
   where
-    go : (d : Result (List Axis) Fault) → new_table rule ns ds t ≡ d → Makes r xs d
-        → ((c : Cause) → r ≡ Err (refused_at c a) → (c ≡ Sum) × (keeps_rule rule (get_or ns a 0) (total (expand rs)) ≡ false))
+    go : (d : Result (List Axis) Fault) → new_table keeps ns ds t ≡ d → Makes r xs d
+        → ((c : Cause) → r ≡ Err (refused_at c a) → (c ≡ Sum) × (keeps (get_or ns a 0) (total (expand rs)) ≡ false))
         × (r ≡ Ok tt → a < length ns → slice_get xs a ≡ Some (varying (get_or ns a 0) (expand rs)))
     go (Err f) e (q, _) = (
       (λ c h.
           let same : f ≡ refused_at c a = same_fault f (refused_at c a) (sym q ∙ h) in
-          sum_broken (keeps_rule rule (get_or ns a 0) (total (expand rs))) c (sym (laid_cause rule ds t a rs p (get_or ns a 0)) ∙ refused_cause rule ns ds t a c l (e ∙ ap Err same))),
+          sum_broken (keeps (get_or ns a 0) (total (expand rs))) c (sym (laid_cause keeps ds t a rs p (get_or ns a 0)) ∙ refused_cause keeps ns ds t a c l (e ∙ ap Err same))),
       (λ h. apart f (sym h ∙ q)),
     )
     go (Ok ys) e (q, s) = (
       (λ c h. apart (refused_at c a) (sym q ∙ h)),
       (λ h m.
-          ap (λ zs. slice_get zs a) (s ∙ made_axes rule ns ds t ys e)
+          ap (λ zs. slice_get zs a) (s ∙ made_axes keeps ns ds t ys e)
           ∙ nth_here (length ns) (axis_at ns ds t) a m
-          ∙ ap Some (laid_axis rule ds t a rs p (get_or ns a 0))),
+          ∙ ap Some (laid_axis keeps ds t a rs p (get_or ns a 0))),
     )

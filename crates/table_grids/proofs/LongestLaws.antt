@@ -1,6 +1,6 @@
-use Rattle.std.proofs.Common.{◌≡◌, ℕ, zero, suc, ◌+◌, ◌<◌, ◌≤◌, max, List, [], ◌∷◌, length, get_or, drop, Option, unwrap_or, refl, ap, ◌∙◌, ⊎_elim, le_refl, arith}
+use Rattle.std.proofs.Common.{◌≡◌, ℕ, zero, suc, ◌<◌, ◌≤◌, max, List, [], ◌∷◌, fold, length, get_or, Option, unwrap_or, refl, ap, ◌∙◌, ⊎_elim, le_refl, arith}
 use Rattle.std.proofs.lemmas.Bool.{cases_lt}
-use Rattle.std.proofs.lemmas.List.{drop_more, at_drop_all, length-map}
+use Rattle.std.proofs.lemmas.List.{length-map}
 use Rattle.edges.specs.declared.table.OffsetSize.{OffsetSize}
 use Rattle.edges.specs.Answers.{no_entry}
 use Rattle.axes.specs.Axes.{edge_at, varying}
@@ -10,14 +10,10 @@ use Rattle.table_grids.specs.declared.dimension.Dimension.TheVariants.{Fixed, Va
 use Rattle.table_grids.specs.Spans.{span, sizes, axis_of, longest_of, longest_in}
 use Rattle.table_grids.specs.Valid.{size_at}
 
-pub longest_more : (es : List OffsetSize) (i most next : ℕ) → i < length es → max most (longest_of (drop i es)) ≡ longest_of es
-    → next ≡ max most (get_or es i no_entry).size → max next (longest_of (drop (i + 1) es)) ≡ longest_of es
-longest_more es i most next l h e =
-    let d : longest_of (drop i es) ≡ max (get_or es i no_entry).size (longest_of (drop (i + 1) es)) = ap longest_of (drop_more es i no_entry l) in
-    omega arith
-
-pub longest_all : (es : List OffsetSize) (i most : ℕ) → length es ≤ i → max most (longest_of (drop i es)) ≡ longest_of es → most ≡ longest_of es
-longest_all es i most l h = let d : longest_of (drop i es) ≡ 0 = at_drop_all longest_of es i l in omega arith
+-- the greatest of the sizes, gathered from the front
+pub longest_fold : (es : List OffsetSize) (m : ℕ) → fold (λ m e. max e.size m) m es ≡ max m (longest_of es)
+longest_fold [] m = omega arith
+longest_fold (e ∷ es) m = let r = longest_fold es (max e.size m) in omega arith
 
 above : (es : List OffsetSize) (k : ℕ) → k < length es → (get_or es k no_entry).size ≤ longest_of es
 above [] k l = absurd (let n : ⊥ = omega arith in n)

@@ -1,4 +1,4 @@
-use Rattle.std.specs.Prelude.{◌≡◌, ℕ, ◌<◌, ◌≤◌, false, List, ◌++◌, length, Some, Ok, Err, Result, slice_index, slice_index_or}
+use Rattle.std.specs.Prelude.{◌≡◌, ℕ, ◌<◌, ◌≤◌, Bool, false, List, ◌++◌, length, Some, Ok, Err, Result, slice_index, slice_index_or}
 use Rattle.std.specs.List.{slice_get}
 use Rattle.edges.specs.declared.table.OffsetSize.{OffsetSize}
 use Rattle.edges.specs.declared.table.Run.{Run}
@@ -11,8 +11,6 @@ use Rattle.axes.specs.Axes.{Axis, varying}
 use Rattle.grids.specs.Places.{refused_at}
 use Rattle.table_grids.specs.declared.dimension.Dimension.{Dimension}
 use Rattle.table_grids.specs.declared.dimension.Dimension.TheVariants.{Fixed, Varying}
-use Rattle.table_grids.specs.declared.sum_rule.SumRule.{SumRule}
-use Rattle.table_grids.specs.Causes.{keeps_rule}
 
 -- The span of axis a holds what `lay` writes for these runs, and it writes something.
 pub record LaidAt (ds : List Dimension) (t : List OffsetSize) (a : ℕ) (runs : List Run) : Type 0 where
@@ -26,8 +24,8 @@ pub record LaidAt (ds : List Dimension) (t : List OffsetSize) (a : ℕ) (runs : 
   pub described : slice_index_or ds a (Fixed 0) ≡ Varying (length front) (length entries)
 
 -- Where `lay` has laid runs, a refusal that names the axis is 4, and their sum breaks the rule; a grid that is made has their edges there.
-abbrev pub LaidAccepted : SumRule → List ℕ → List Dimension → List OffsetSize → List Axis → Result (Unit {0}) Fault → Type 0
-LaidAccepted rule ns ds t xs r =
+abbrev pub LaidAccepted : (ℕ → ℕ → Bool) → List ℕ → List Dimension → List OffsetSize → List Axis → Result (Unit {0}) Fault → Type 0
+LaidAccepted keeps ns ds t xs r =
     (a : ℕ) (runs : List Run) → a < 8 → LaidAt ds t a runs
-    → ((c : Cause) → r ≡ Err (refused_at c a) → (c ≡ Sum) × (keeps_rule rule (slice_index ns a) (total (expand runs)) ≡ false))
+    → ((c : Cause) → r ≡ Err (refused_at c a) → (c ≡ Sum) × (keeps (slice_index ns a) (total (expand runs)) ≡ false))
     × (r ≡ Ok tt → a < length ns → slice_get xs a ≡ Some (varying (slice_index ns a) (expand runs)))

@@ -2,7 +2,7 @@ use Rattle.std.specs.Prelude.{◌≡◌, ℕ, ◌^◌, ◌<◌, ◌≤◌, max, 
 use Rattle.edges.specs.declared.table.OffsetSize.{OffsetSize}
 use Rattle.edges.specs.Answers.{no_entry}
 use Rattle.edges.specs.Runs.{total}
-use Rattle.axes.specs.Axes.{Axis, fixed, varying}
+use Rattle.axes.specs.Axes.{Axis, axes_by, fixed, varying}
 use Rattle.table_grids.specs.declared.dimension.Dimension.{Dimension}
 use Rattle.table_grids.specs.declared.dimension.Dimension.TheVariants.{Fixed, Varying}
 
@@ -17,6 +17,10 @@ sizes es = map (λ e. e.size) es
 abbrev pub axis_of : List OffsetSize → ℕ → Dimension → Axis
 axis_of t n (Fixed s) = fixed n s
 axis_of t n (Varying first number) = varying n (sizes (span t first number))
+
+-- What sizes and dimensions mean over a table.
+abbrev pub axes_over : List OffsetSize → ℕ → List ℕ → List Dimension → List Axis
+axes_over t number ns ds = axes_by number (λ a. axis_of t (slice_index ns a) (slice_index_or ds a (Fixed 0)))
 
 -- each offset is the sum of the sizes before it
 abbrev pub OffsetsAreSums : List OffsetSize → Type 0

@@ -4,7 +4,7 @@ use Rattle.std.specs.List.{slice_get}
 use Rattle.std.specs.Option.{unwrap_or}
 use Rattle.std.proofs.lemmas.Bool.{and_parts, or_parts, eqb-true, eqb-false, ltb-true, leb-true, both_ways}
 use Rattle.std.proofs.lemmas.Option.{slice_get-get_or, slice_get_past}
-use Rattle.std.proofs.lemmas.List.{length-map, length-take, length-drop, get_or-map, take_all}
+use Rattle.std.proofs.lemmas.List.{length-map, get_or-map, take_all}
 use Rattle.edges.specs.declared.table.OffsetSize.{OffsetSize}
 use Rattle.edges.specs.declared.fault.Cause.TheVariants.{Zero, Sum, Overflow, Short}
 use Rattle.edges.specs.Answers.{no_entry}
@@ -14,10 +14,8 @@ use Rattle.axes.specs.AxisLaws.{fixed_lawful, nth_below}
 use Rattle.axes.specs.VaryingLaws.{varying_lawful}
 use Rattle.table_grids.specs.declared.dimension.Dimension.{Dimension}
 use Rattle.table_grids.specs.declared.dimension.Dimension.TheVariants.{Fixed, Varying}
-use Rattle.table_grids.specs.declared.sum_rule.SumRule.{SumRule}
-use Rattle.table_grids.specs.declared.sum_rule.SumRule.TheVariants.{Exact, AtLeast}
 use Rattle.table_grids.specs.Spans.{span, sizes, axis_of, fixed_edge, OffsetsAreSums, SizesPositive}
-use Rattle.table_grids.specs.Causes.{laid, keeps_rule, entries_cause, axis_cause}
+use Rattle.table_grids.specs.Causes.{laid, exactly, at_least, Reaches, entries_cause, axis_cause}
 
 -- Entries that an axis of size n can have: laid one after another, with edges of at least 1, to an end that has 64 bits and reaches the size.
 pub record ValidSpan (n : ℕ) (es : List OffsetSize) : Type 0 where
@@ -30,10 +28,6 @@ pub record ValidSpan (n : ℕ) (es : List OffsetSize) : Type 0 where
 abbrev pub ValidAxis : List OffsetSize → ℕ → Dimension → Type 0
 ValidAxis t n (Fixed s) = 1 ≤ s
 ValidAxis t n (Varying first number) = (first + number ≤ length t) × ValidSpan n (span t first number)
-
--- a span within the table has as many entries as it says
-pub span-length : (t : List OffsetSize) (first number : ℕ) → first + number ≤ length t → length (sizes (span t first number)) ≡ number
-span-length t first number h = simp (length-map, length-take, length-drop) (omega arith)
 
 -- the size in entry k is the edge of chunk k, and past the entries there is none
 pub size_at : (es : List OffsetSize) (k : ℕ) → k < length es → slice_get (sizes es) k ≡ Some (slice_index_or es k no_entry).size
@@ -97,17 +91,19 @@ not_zero (e ∷ es) zero h l =
 not_zero (e ∷ es) (suc k) h l = not_zero es k (or_parts (e.size == 0) (has_zero (sizes es)) h).1 (omega arith)
 
 -- either rule gives at least the size
-kept_reaches : (rule : SumRule) (n m : ℕ) → keeps_rule rule n m ≡ true → n ≤ m
-kept_reaches Exact n m h = let e = eqb-true m n h in omega arith
-kept_reaches AtLeast n m h = leb-true n m h
+pub exactly_reaches : Reaches exactly
+exactly_reaches n m h = let e = eqb-true m n h in omega arith
+
+pub at_least_reaches : Reaches at_least
+at_least_reaches n m h = leb-true n m h
 
 -- where there is no cause, the entries are valid
-valid_span : (rule : SumRule) (n : ℕ) (es : List OffsetSize) → is_some (entries_cause rule n es) ≡ false → ValidSpan n es
-valid_span rule n es h =
-    go (laid 0 es) (has_zero (sizes es)) (nat_lt (total (sizes es)) (2 ^ 64)) (nat_lt 0 (length es) && keeps_rule rule n (total (sizes es))) refl refl refl refl h
+pub valid_span : (keeps : ℕ → ℕ → Bool) → Reaches keeps → (n : ℕ) (es : List OffsetSize) → is_some (entries_cause keeps n es) ≡ false → ValidSpan n es
+valid_span keeps reaches n es h =
+    go (laid 0 es) (has_zero (sizes es)) (nat_lt (total (sizes es)) (2 ^ 64)) (nat_lt 0 (length es) && keeps n (total (sizes es))) refl refl refl refl h
   where
     go : (a b c d : Bool) → laid 0 es ≡ a → has_zero (sizes es) ≡ b → nat_lt (total (sizes es)) (2 ^ 64) ≡ c
-        → (nat_lt 0 (length es) && keeps_rule rule n (total (sizes es))) ≡ d
+        → (nat_lt 0 (length es) && keeps n (total (sizes es))) ≡ d
         → is_some (cond a (cond b (Some Zero) (cond c (cond d None (Some Sum)) (Some Overflow))) (Some Short)) ≡ false → ValidSpan n es
     go false b c d p q r s h = absurd (both_ways true h refl)
     go true true c d p q r s h = absurd (both_ways true h refl)
@@ -117,18 +113,18 @@ valid_span rule n es h =
       offsets = λ k l. laid_offset 0 es k p l ∙ zero-add _;
       positive = λ k l. not_zero es k q l;
       end_fits = ltb-true (total (sizes es)) (2 ^ 64) r;
-      reaches = kept_reaches rule n (total (sizes es)) (and_parts (nat_lt 0 (length es)) (keeps_rule rule n (total (sizes es))) s).1;
+      reaches = reaches n (total (sizes es)) (and_parts (nat_lt 0 (length es)) (keeps n (total (sizes es))) s).1;
     }
 
-pub valid_axis : (rule : SumRule) (t : List OffsetSize) (n : ℕ) (d : Dimension) → is_some (axis_cause rule t n d) ≡ false → ValidAxis t n d
-valid_axis rule t n (Fixed s) h = go (s == 0) refl h
+pub valid_axis : (keeps : ℕ → ℕ → Bool) → Reaches keeps → (t : List OffsetSize) (n : ℕ) (d : Dimension) → is_some (axis_cause keeps t n d) ≡ false → ValidAxis t n d
+valid_axis keeps reaches t n (Fixed s) h = go (s == 0) refl h
   where
     go : (b : Bool) → (s == 0) ≡ b → is_some (cond b (Some Zero) None) ≡ false → 1 ≤ s
     go true p q = absurd (both_ways true q refl)
     go false p q = let e = eqb-false s 0 p in omega (arith, e)
-valid_axis rule t n (Varying first number) h = go (nat_le (first + number) (length t)) refl h
+valid_axis keeps reaches t n (Varying first number) h = go (nat_le (first + number) (length t)) refl h
   where
-    go : (b : Bool) → nat_le (first + number) (length t) ≡ b → is_some (cond b (entries_cause rule n (span t first number)) (Some Short)) ≡ false
+    go : (b : Bool) → nat_le (first + number) (length t) ≡ b → is_some (cond b (entries_cause keeps n (span t first number)) (Some Short)) ≡ false
         → (first + number ≤ length t) × ValidSpan n (span t first number)
-    go true p q = (leb-true (first + number) (length t) p, valid_span rule n (span t first number) q)
+    go true p q = (leb-true (first + number) (length t) p, valid_span keeps reaches n (span t first number) q)
     go false p q = absurd (both_ways true q refl)

@@ -1,6 +1,7 @@
 // Grids that read their edges from a table in the caller's memory: rectangular and rectilinear.
 #![tactic(auto)]
 
+mod answering;
 mod checking;
 mod dimension;
 mod making;
@@ -9,8 +10,8 @@ mod rectangular;
 mod rectilinear;
 mod span;
 mod sum_rule;
-mod tabled;
-mod tabled_grid;
+mod table_axis;
+mod table_grid;
 
 pub use dimension::Dimension;
 pub use rectangular::Rectangular;

@@ -1,76 +1,41 @@
-ghost use Rattle.std.specs.Prelude.{◌≡◌, ℕ, ◌^◌, ◌<◌, Ok};
+ghost use Rattle.std.specs.Prelude.{◌≡◌, ℕ, Ok};
 ghost use Rattle.axes.specs.Axes.{chunk_of};
 ghost use Rattle.grids.specs.Answers.{lengths, origin_at};
-ghost use Rattle.table_grids.specs.Spans.{axis_of, fixed_edge, longest_of, longest_in};
-ghost use Rattle.table_grids.specs.Valid.{ValidAxis};
-ghost use Rattle.table_grids.specs.Views.{span_axis};
+ghost use Rattle.table_grids.specs.Spans.{longest_of};
+ghost use Rattle.table_grids.specs.Views.{span_axis, meaning, longest_edge};
 
-use crate::dimension::Dimension;
 use crate::span::Span;
-use edges::{Edge, OffsetSize};
-
-// The number of chunks of an axis.
-pub(crate) fn count_of(table: &[OffsetSize], size: u64, dimension: Dimension) -> u64
-    requires { ValidAxis table.now size dimension }
-    ensures count { result ≡ (axis_of table.now size dimension).count }
-    ensures fits { fixed_edge dimension < 2 ^ 64 }
-{
-    match dimension {
-        Dimension::Fixed(edge) => size.div_ceil(edge),
-        Dimension::Varying { first: _, number } => number as u64,
-    }
-}
-
-// The longest edge among the entries, 0 where there is none.
-fn longest_size(entries: &[OffsetSize]) -> u64
-    ensures { result ≡ longest_of entries.now }
-{
-    let mut most = 0;
-    for row in entries {
-        if row.size > most {
-            most = row.size;
-        }
-    }
-    most
-}
-
-// The longest edge of an axis.
-pub(crate) fn longest_edge(table: &[OffsetSize], size: u64, dimension: Dimension) -> u64
-    requires { ValidAxis table.now size dimension }
-    ensures { result ≡ longest_in table.now dimension }
-{
-    match dimension {
-        Dimension::Fixed(edge) => edge,
-        Dimension::Varying { first, number } => longest_size(&table[first..first + number]),
-    }
-}
+use crate::table_axis::TableAxis;
+use edges::{Cause, Edge, Fault, Layer};
 
 impl<'a> Span<'a> {
+    // The longest edge, 0 where there is none.
+    fn longest(self) -> u64
+        ensures { result ≡ longest_of self.entry.entries.now }
+    {
+        self.entries
+            .iter()
+            .fold(0, |longest, row| row.size.max(longest))
+    }
+
     // The edge of a chunk.
-    pub(crate) fn edge(self, chunk: u64) -> Option<Edge>
+    fn edge(self, chunk: u64) -> Option<Edge>
         ensures { lengths result ≡ (span_axis self.entry).edge chunk }
     {
-        if chunk < self.entries.len() as u64 {
-            let length = self.entries[chunk as usize].size;
-            Some(Edge { length })
-        } else {
-            None
-        }
+        let row = self.entries.get(chunk as usize)?;
+        Some(Edge { number: row.size })
     }
 
     // Where a chunk begins.
-    pub(crate) fn origin(self, chunk: u64) -> Option<u64>
+    fn origin(self, chunk: u64) -> Option<u64>
         ensures { (a : ℕ) → Ok result ≡ origin_at a chunk (span_axis self.entry) }
     {
-        if chunk < self.entries.len() as u64 {
-            Some(self.entries[chunk as usize].offset)
-        } else {
-            None
-        }
+        self.entries.get(chunk as usize).map(|row| row.offset)
     }
 
-    // The chunk that contains an index, by halving the span.
-    pub(crate) fn chunk_at(self, index: u64) -> Option<u64>
+    // The chunk that contains an index. A rule of the library: the span is halved by a loop that yields the chunk by
+    // `break`, and by no search of std.
+    fn chunk_at(self, index: u64) -> Option<u64>
         ensures { result ≡ chunk_of (span_axis self.entry) index }
     {
         let mut low = 0;
@@ -88,6 +53,65 @@ impl<'a> Span<'a> {
             } else {
                 low = middle + 1;
             }
+        }
+    }
+}
+
+// An axis of equal edges answers as one of a regular grid does: a line for each question, in crates that do not know each
+// other.
+impl<'a> TableAxis<'a> {
+    // The number of chunks.
+    pub(crate) fn chunks(self) -> u64
+        ensures { result ≡ (meaning self.entry).count }
+    {
+        match self {
+            TableAxis::Equal { size, edge } => size.div_ceil(edge.get()),
+            TableAxis::Listed(span) => span.entries.len() as u64,
+        }
+    }
+
+    // The longest edge.
+    pub(crate) fn longest(self) -> u64
+        ensures { result ≡ longest_edge self.entry }
+    {
+        match self {
+            TableAxis::Equal { size: _, edge } => edge.get(),
+            TableAxis::Listed(span) => span.longest(),
+        }
+    }
+
+    // The edge of a chunk.
+    pub(crate) fn edge(self, chunk: u64) -> Option<Edge>
+        ensures { lengths result ≡ (meaning self.entry).edge chunk }
+    {
+        match self {
+            TableAxis::Equal { size: _, edge } => Some(edge),
+            TableAxis::Listed(span) => span.edge(chunk),
+        }
+    }
+
+    // Where a chunk begins.
+    pub(crate) fn origin(self, axis: u8, chunk: u64) -> Result<Option<u64>, Fault>
+        ensures { result ≡ origin_at axis chunk (meaning self.entry) }
+    {
+        match self {
+            TableAxis::Equal { size: _, edge } => {
+                let origin = chunk
+                    .checked_mul(edge.get())
+                    .ok_or(Fault::on_axis(Cause::Overflow, Layer::Grid, axis))?;
+                Ok(Some(origin))
+            }
+            TableAxis::Listed(span) => Ok(span.origin(chunk)),
+        }
+    }
+
+    // The chunk that contains an index.
+    pub(crate) fn chunk_at(self, index: u64) -> Option<u64>
+        ensures { result ≡ chunk_of (meaning self.entry) index }
+    {
+        match self {
+            TableAxis::Equal { size: _, edge } => Some(index / edge.get()),
+            TableAxis::Listed(span) => span.chunk_at(index),
         }
     }
 }

@@ -1,65 +1,22 @@
-ghost use Rattle.grids.specs.Making.{Makes};
-ghost use Rattle.table_grids.specs.Kinds.{rectilinear_axes, rectilinear_lawful, new_rectilinear};
-ghost use Rattle.table_grids.specs.LaidSpans.{LaidAccepted};
-ghost use Rattle.table_grids.specs.declared.sum_rule.SumRule.TheVariants.{AtLeast};
+ghost use Rattle.table_grids.specs.Causes.{at_least};
+ghost use Rattle.table_grids.specs.Valid.{at_least_reaches};
 
-use crate::dimension::Dimension;
 use crate::sum_rule::SumRule;
-use crate::tabled::Tabled;
-use edges::{Edge, Fault, OffsetSize};
-use grids::ChunkGrid;
+use crate::table_grid::TableGrid;
+
+// The sum is the size or more.
+#[derive(Clone, Copy)]
+pub struct AtLeast;
 
 // A rectilinear grid: each axis has one edge throughout, or a span of a table that sums to at least the size.
-#[derive(Clone, Copy)]
-pub struct Rectilinear<'a> {
-    over: Tabled<'a>,
-}
+pub type Rectilinear<'a> = TableGrid<'a, AtLeast>;
 
-impl<'a> Rectilinear<'a> {
-    // The grid with these sizes and axes over a table, or a refusal beside a grid of no axes.
-    pub fn new(
-        array_shape: &[u64],
-        axes: &[Dimension],
-        table: &'a [OffsetSize],
-    ) -> (Rectilinear<'a>, Result<(), Fault>)
-        ensures made { Makes result.1 (rectilinear_axes result.0) (new_rectilinear array_shape.now axes.now table.now) }
-        ensures laid { LaidAccepted AtLeast array_shape.now axes.now table.now (rectilinear_axes result.0) result.1 }
-    {
-        let (over, made) = Tabled::new(array_shape, axes, table, SumRule::AtLeast);
-        (Rectilinear { over }, made)
-    }
-}
+impl SumRule for AtLeast {
+    ghost keeps = { at_least };
 
-impl<'a> ChunkGrid for Rectilinear<'a> {
-    ghost axes = { rectilinear_axes };
+    ghost reaches = { at_least_reaches };
 
-    ghost lawful = { rectilinear_lawful };
-
-    fn dimensionality(&self) -> usize {
-        self.over.dimensionality()
-    }
-
-    fn size(&self, axis: usize) -> Option<u64> {
-        self.over.size(axis)
-    }
-
-    fn chunks(&self, axis: usize) -> Option<u64> {
-        self.over.chunks(axis)
-    }
-
-    fn edge(&self, axis: usize, chunk: u64) -> Option<Edge> {
-        self.over.edge(axis, chunk)
-    }
-
-    fn origin(&self, axis: usize, chunk: u64) -> Result<Option<u64>, Fault> {
-        self.over.origin(axis, chunk)
-    }
-
-    fn chunk_at(&self, axis: usize, index: u64) -> Option<u64> {
-        self.over.chunk_at(axis, index)
-    }
-
-    fn fits(&self, limit: u64, width: u64) -> bool {
-        self.over.fits(limit, width)
+    fn keeps_rule(size: u64, sum: u128) -> bool {
+        size as u128 <= sum
     }
 }

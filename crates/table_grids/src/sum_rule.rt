@@ -1,6 +1,13 @@
+ghost use Rattle.std.specs.Prelude.{◌≡◌, ℕ, Bool};
+ghost use Rattle.table_grids.specs.Causes.{Reaches};
+
 // How the sum of a span's edges must stand to the size of its axis.
-#[derive(Clone, Copy)]
-pub(crate) enum SumRule {
-    Exact,
-    AtLeast,
+pub trait SumRule {
+    ghost keeps: { ℕ → ℕ → Bool };
+
+    ghost reaches: { Reaches keeps };
+
+    // Whether a sum keeps the rule.
+    fn keeps_rule(size: u64, sum: u128) -> bool
+        ensures { result ≡ keeps size sum };
 }

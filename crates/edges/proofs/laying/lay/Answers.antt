@@ -45,9 +45,6 @@ invariant_of-count c = record { positive = (here (goal.at.invariant_of-count c).
 pub overflow_add-end : goal.overflow_add-end
 overflow_add-end c = let r = (here (goal.at.overflow_add-end c).Joined-run).room in let g = c.get.ensures in omega arith
 
-pub offset_bounds-table-at : goal.offset_bounds-table-at
-offset_bounds-table-at c = let r = (here (goal.at.offset_bounds-table-at c).Joined-run).room in omega arith
-
 pub slice_bounds-lay_run-end : goal.slice_bounds-lay_run-end
 slice_bounds-lay_run-end c = let r = (here (goal.at.slice_bounds-lay_run-end c).Joined-run).room in let g = c.get.ensures in search rules
 

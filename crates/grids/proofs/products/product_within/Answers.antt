@@ -1,6 +1,4 @@
-use Rattle.std.proofs.Common.{◌≡◌, ◌*◌, get_or, take, sym, ap, ◌∙◌, arith}
-use Rattle.std.proofs.lemmas.List.{take_all}
-use Rattle.axes.specs.Fitting.{product}
+use Rattle.std.proofs.Common.{◌*◌, get_or, sym, ap, ◌∙◌, arith}
 use Rattle.grids.proofs.ProductLaws.{product_none, product_some, product_more, product_over, decided_yes, decided_no}
 use Rattle.grids.proofs.products.product_within.Goals as goal
 
@@ -10,15 +8,15 @@ returns-then-has_zero c = decided_yes (let z = product_none c.args.numbers.now (
 pub returns-then-limit-eq0 : goal.returns-then-limit-eq0
 returns-then-limit-eq0 c = decided_no (λ q. let p = product_some c.args.numbers.now (sym c.has_zero.ensures ∙ c.if-has_zero.false) in omega arith)
 
-pub returns-then-p-limit : goal.returns-then-p-limit
-returns-then-p-limit c =
+pub returns-in_default : goal.returns-in_default
+returns-in_default c =
     decided_no (product_over c.args.numbers.now c.loop-n.n-index c.loop-n.so_far c.args.limit (sym c.has_zero.ensures ∙ c.if-has_zero.false) (omega arith) c.loop-n.invariant.0
     (let e = c.in-Some.ensures.1 in omega arith))
 
-pub returns-in-None : goal.returns-in-None
-returns-in-None c =
+pub returns-in_default-2 : goal.returns-in_default-2
+returns-in_default-2 c =
     decided_no (product_over c.args.numbers.now c.loop-n.n-index c.loop-n.so_far c.args.limit (sym c.has_zero.ensures ∙ c.if-has_zero.false) (omega arith) c.loop-n.invariant.0
-    (let f = c.ranges.limit.fits in omega (arith, c.in-None.ensures)))
+    (let f = c.ranges.limit.fits in omega (arith, c.in_default.ensures)))
 
 pub loop-n-preserved : goal.loop-n-preserved
 loop-n-preserved c = (
@@ -26,6 +24,3 @@ loop-n-preserved c = (
       ∙ sym (product_more c.args.numbers.now c.loop-n.n-index (omega arith)),
   omega arith,
 )
-
-pub returns : goal.returns
-returns c = decided_yes (let e : product (take c.loop-n.n-index c.args.numbers.now) ≡ product c.args.numbers.now = ap product (take_all _ c.args.numbers.now (omega arith)) in omega arith)

@@ -1,22 +1,23 @@
-use Rattle.std.proofs.Common.{◌+◌, drop, vec_items, ap, ◌∙◌, arith}
-use Rattle.notation.specs.Texts.{texts}
-use Rattle.notation.specs.Lists.{each_in}
-use Rattle.notation.proofs.ListLaws.{with_done, nothing_done, each_none, each_more, each_all}
+use Rattle.std.proofs.Common.{◌≡◌, Some, None, vec_items, ◌∙◌, arith}
+use Rattle.std.proofs.lemmas.Result.{err_from_is_err_and}
+use Rattle.notation.specs.declared.error.ListError.TheVariants.{NotAList}
+use Rattle.notation.proofs.ListLaws.{each_none, each_more, each_all}
 use Rattle.notation.proofs.item.each.Goals as goal
 
-pub loop-word-init : goal.loop-word-init
-loop-word-init g c =
-    ap (λ xs. with_done xs (each_in g.T.Item.reads (texts c.args.words.now))) c.new-items.ensures.items
-    ∙ nothing_done (each_in g.T.Item.reads (texts c.args.words.now))
-
-pub returns-in_default : goal.returns-in_default
-returns-in_default g c =
-    each_none g.T.Item.reads c.args.words.now c.loop-word.word-index (vec_items c.loop-word.items) c.loop-word.invariant c.loop-word-test.true c.in_default.ensures
+pub returns-in_err-ok_or : goal.returns-in_err-ok_or
+returns-in_err-ok_or g c =
+    let none : None ≡ c.read.result = grind arith in
+    let not : c.in_err-ok_or.field-0.0 ≡ NotAList = grind arith in
+    let p = err_from_is_err_and c.from_residual.result c.from_residual.ensures.1 in
+    rw (p.1, p.2, not)
+    (each_none g.T.Item.reads c.args.words.now c.loop-word.word-index (vec_items c.loop-word.items) c.loop-word.invariant c.loop-word-test.true (none ∙ c.read.ensures))
 
 pub loop-word-preserved : goal.loop-word-preserved
 loop-word-preserved g c =
-    ap (λ xs. with_done xs (each_in g.T.Item.reads (texts (drop (c.loop-word.word-index + 1) c.args.words.now)))) c.in_ok-push.ensures.items
-    ∙ each_more g.T.Item.reads c.args.words.now c.loop-word.word-index (vec_items c.loop-word.items) c.loop-word.invariant c.loop-word-test.true c.in-Some.item c.in-Some.ensures
+    let some : Some c.in_ok-ok_or.field-0 ≡ c.read.result = grind arith in
+    rw c.in_ok-push.ensures.items
+    (each_more g.T.Item.reads c.args.words.now c.loop-word.word-index (vec_items c.loop-word.items) c.loop-word.invariant c.loop-word-test.true c.in_ok-ok_or.field-0
+    (some ∙ c.read.ensures))
 
 pub returns : goal.returns
 returns g c =

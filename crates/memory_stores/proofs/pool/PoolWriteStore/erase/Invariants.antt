@@ -1,13 +1,7 @@
-use Rattle.std.proofs.Common.{◌≡◌, is_some}
-use Rattle.memory_stores.specs.Entries.{slot_of, released}
+use Rattle.std.proofs.Common.{◌≡◌, take, drop, ◌++◌}
+use Rattle.memory_stores.specs.Entries.{released}
 use Rattle.memory_stores.proofs.pool.PoolWriteStore.erase.Given as goal
 
-abbrev pub invariant-loop-slot : goal.invariant-loop-slot
-invariant-loop-slot g l =
-    (l.self ≡ record {
-      values = l.initial.self.values;
-      directory = record { entries = released l.chunk l.slot l.initial.self.directory.entries };
-      width = l.initial.self.width;
-      limit = l.initial.self.limit;
-    })
-    × (l.was ≡ is_some (slot_of l.initial.self.directory.entries l.slot l.chunk))
+abbrev pub invariant-loop-entry : goal.invariant-loop-entry
+invariant-loop-entry g l =
+    l.entry-items ≡ released l.chunk (take l.entry-index l.initial.entry-items) ++ drop l.entry-index l.initial.entry-items

@@ -1,15 +1,15 @@
-use Rattle.std.proofs.Common.{sym, ap, ◌∙◌}
-use Rattle.stores.specs.Held.{free}
-use Rattle.own_store.specs.Single.{single_held}
-use Rattle.own_store.proofs.SingleLaws.{free_taken, free_left}
+use Rattle.std.proofs.Common.{◌≡◌, true, false, is_some, sym, ◌∙◌}
+use Rattle.own_store.proofs.SingleLaws.{free_is}
 use Rattle.own_store.proofs.single.SingleReadStore.free.Goals as goal
 
-pub returns-then-self : goal.returns-then-self
-returns-then-self c =
-    let xs = c.args.self.now.values in
-    sym (ap (λ on. free (single_held xs on)) c.if-self.true ∙ free_taken xs)
+pub returns-then-is_some : goal.returns-then-is_some
+returns-then-is_some c =
+    let o = c.args.self.now.values in
+    let on : is_some o ≡ true = cc in
+    sym (free_is o ∙ rw on)
 
-pub returns-else-self : goal.returns-else-self
-returns-else-self c =
-    let xs = c.args.self.now.values in
-    sym (ap (λ on. free (single_held xs on)) c.if-self.false ∙ free_left xs)
+pub returns-else-is_some : goal.returns-else-is_some
+returns-else-is_some c =
+    let o = c.args.self.now.values in
+    let off : is_some o ≡ false = cc in
+    sym (free_is o ∙ rw off)

@@ -1,10 +1,7 @@
 use Rattle.std.proofs.Common.{◌+◌, ◌-◌, ◌/◌, arith}
-use Rattle.table_grids.proofs.Halving.{whole_span, lower_half, upper_half, found, not_found}
+use Rattle.table_grids.proofs.Halving.{lower_half, upper_half, found, not_found}
 use Rattle.table_grids.proofs.Tables.{span_valid}
 use Rattle.table_grids.proofs.span.Span.chunk_at.Goals as goal
-
-pub loop-high-init : goal.loop-high-init
-loop-high-init c = (omega arith, whole_span _ _ (span_valid c.args.self) _)
 
 pub loop-high-preserved-then-index-found : goal.loop-high-preserved-then-index-found
 loop-high-preserved-then-index-found c = (

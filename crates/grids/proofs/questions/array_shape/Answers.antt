@@ -1,0 +1,6 @@
+use Rattle.std.proofs.Common.{rules}
+use Rattle.grids.specs.Answers.{size_answer}
+use Rattle.grids.proofs.questions.array_shape.Goals as goal
+
+pub returns : goal.returns
+returns g c = c.answer_shape.ensures (λ xs a k. size_answer xs a) (λ a k r l b p. search rules)

@@ -1,7 +1,0 @@
-use Rattle.std.proofs.Common.{Some, ◌∙◌}
-use Rattle.axes.specs.Axes.{fixed}
-use Rattle.regular_grids.proofs.LengthAnswers.{read_axis}
-use Rattle.regular_grids.proofs.regular.RegularChunkGrid.chunks.Goals as goal
-
-pub returns : goal.returns
-returns c = c.chunks.ensures ∙ read_axis c.args.self.now.lengths c.args.axis fixed (λ x. Some x.count)

@@ -1,5 +1,0 @@
-use Rattle.table_grids.proofs.Entries.{Passed}
-use Rattle.table_grids.proofs.checking.entries_refused.Given as goal
-
-abbrev pub invariant-loop-row : goal.invariant-loop-row
-invariant-loop-row l = Passed l.entries l.row-index l.end l.zero

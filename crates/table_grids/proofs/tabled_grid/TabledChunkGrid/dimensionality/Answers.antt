@@ -1,6 +1,0 @@
-use Rattle.std.proofs.Common.{sym}
-use Rattle.axes.specs.AxisLaws.{length_from}
-use Rattle.table_grids.proofs.tabled_grid.TabledChunkGrid.dimensionality.Goals as goal
-
-pub returns : goal.returns
-returns c = sym (length_from _ 0 _)
