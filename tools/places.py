@@ -62,7 +62,7 @@ def functions():
                 j += 1
                 if not depth:
                     break
-            e = re.compile(rf"(?m)^{m.group(1)}(?:\}}|\{{\}})$|;$").search(s, j)
+            e = re.compile(rf"(?m)^{m.group(1)}(?:\}}|\{{\}})$").search(s, j)
             b = re.compile(rf"(?m)^{m.group(1)}\{{$|\{{$").search(s, j)
             if not e or not b or b.start() > e.start():
                 continue

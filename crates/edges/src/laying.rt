@@ -54,6 +54,7 @@ pub fn lay(runs: &[Run], table: &mut [OffsetSize]) -> Result<usize, Fault>
     let mut at = 0;
     let mut offset = 0;
     for run in runs {
+        // As `Group::try_from` takes a run apart; no 0 is left here, so nothing is refused.
         let (length, number) = match *run {
             Run::Single(length) => (length, 1),
             Run::Repeated(length, number) => (length, number),

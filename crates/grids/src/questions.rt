@@ -11,6 +11,8 @@ use crate::grid::ChunkGrid;
 use crate::regions::{ends_fit, has_zero};
 use edges::{Cause, Fault, Layer};
 
+// Each question tests the lengths of what it is given, two to four of them; a function for that would take a list of lengths.
+
 // Asks each axis, whatever the place holds.
 fn answer_shape<G: ChunkGrid, F: Fn(usize, u64) -> Result<Option<u64>, Fault>>(
     grid: &G,

@@ -16,7 +16,7 @@ use stores::{Element, ReadStore, WriteStore, in_range, in_store};
 const MOST_SLOTS: usize = 256;
 
 // A store with fewer rows of values than chunks: a present chunk lies in a slot, and the entries
-// say in which.
+// say in which. They are a fixed table, since there is no heap.
 #[derive(Drop)]
 pub struct Pool<'a, E> {
     values: &'a mut [E],

@@ -4,7 +4,7 @@ ghost use Rattle.std.specs.Prelude.{◌≡◌, alloc_error};
 use std::alloc::{AllocError, AllocFailed};
 
 // Why a text gives no list.
-#[derive(Clone, Copy, PartialEq, Debug)]
+#[derive(Clone, Copy, PartialEq, Eq, Debug)]
 pub enum ListError {
     NotAList,
     OutOfMemory(AllocError),

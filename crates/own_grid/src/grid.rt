@@ -41,7 +41,7 @@ impl ChunkGrid for Doubling {
     }
 
     fn origin(&self, axis: usize, chunk: u64) -> Result<Option<u64>, Fault> {
-        // `?` serves refusals here, so an absence is answered by hand.
+        // `?` would hand up a refusal here, and no absence.
         let Some(edge) = self.edge(axis, chunk) else {
             return Ok(None);
         };

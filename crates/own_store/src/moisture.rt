@@ -1,7 +1,7 @@
 use stores::Element;
 
 // How moist the material is, in per cent; 255 where it was not measured, so that a kind is shown whose fill value is not 0.
-#[derive(Clone, Copy, PartialEq, Debug)]
+#[derive(Clone, Copy, PartialEq, Eq, Debug)]
 pub struct Moisture {
     pub percent: u8,
 }

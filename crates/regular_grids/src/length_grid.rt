@@ -16,7 +16,8 @@ pub struct LengthGrid<R> {
 
 impl<R: EdgeRule> LengthGrid<R> {
     // The grid with these sizes and edges, or a refusal beside a grid of no axes.
-    // A rule of the library: a refused making leaves a grid of no axes. The pair is made here, and nowhere below.
+    // A rule of the library: a refused making leaves a grid of no axes. The pair is made here, and nowhere below; a grid
+    // over a table makes its own, in a crate apart.
     pub fn new(array_shape: &[u64], chunk_shape: &[u64]) -> (LengthGrid<R>, Result<(), Fault>)
         ensures { Makes result.1 (length_axes R.axis result.0.lengths) (new_lengths R.axis array_shape.now chunk_shape.now) }
     {
@@ -54,7 +55,7 @@ impl<R: EdgeRule> ChunkGrid for LengthGrid<R> {
     }
 
     fn origin(&self, axis: usize, chunk: u64) -> Result<Option<u64>, Fault> {
-        // `?` serves refusals here, so an absence is answered by hand.
+        // `?` would hand up a refusal here, and no absence. A grid over a table has the same lines, in a crate apart.
         match self.lengths.axis(axis) {
             Some(lengths) => R::origin(lengths, axis as u8, chunk),
             None => Ok(None),

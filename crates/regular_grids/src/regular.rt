@@ -6,7 +6,7 @@ use crate::length_grid::LengthGrid;
 use crate::lengths::AxisLengths;
 use edges::{Cause, Edge, Fault, Layer};
 
-// Every chunk has the edge of its axis.
+// Every chunk has the edge of its axis. An axis of equal edges over a table answers likewise, in a crate apart.
 #[derive(Clone, Copy)]
 pub struct EqualEdges;
 

@@ -92,7 +92,7 @@ fn answer_words(
     Ok(Some(settled(answer)?))
 }
 
-// The answer to a line, and the current grid after it; a line that begins with `#`, or has no word, has none.
+// The answer to a line, and the current grid after it; a line that begins with `#`, or has no word, has none, which is no error.
 pub fn answer_line(
     heap: Global,
     current: &mut Current,

@@ -34,8 +34,8 @@ pub(crate) fn laid(heap: Global, runs: &[Run], room: usize) -> Result<Vec<Offset
     Ok(table)
 }
 
-// The runs of edges compressed into this many entries. One text for this and `laid` wants a trait
-// for two calls and two kinds of entry, and is no plainer.
+// The runs of edges compressed into this many entries. One text for this and `laid` would take the
+// call as a closure, whose contract speaks of the place after it: no shorter than these four lines.
 fn compressed(heap: Global, edges: &[u64], room: usize) -> Result<Vec<Run>, Stop>
     ensures { MakesOrStops (λ v. Ok v.items) result (Some (compress_answer edges.now room)) }
 {

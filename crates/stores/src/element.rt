@@ -10,7 +10,7 @@ pub trait Element: Copy {
 }
 
 // A thickness, in hundredths of a millimetre.
-#[derive(Clone, Copy, PartialEq, Debug)]
+#[derive(Clone, Copy, PartialEq, Eq, Debug)]
 pub struct Thickness {
     pub hundredths: u16,
 }
@@ -24,7 +24,7 @@ impl Element for Thickness {
 }
 
 // A flaw of the scanned material: what sort it is, by the number that the scanner gives it, and how severe.
-#[derive(Clone, Copy, PartialEq, Debug)]
+#[derive(Clone, Copy, PartialEq, Eq, Debug)]
 pub struct Flaw {
     pub sort: u8,
     pub severity: u8,

@@ -56,7 +56,7 @@ impl<'a, R: SumRule> ChunkGrid for TableGrid<'a, R> {
     }
 
     fn origin(&self, axis: usize, chunk: u64) -> Result<Option<u64>, Fault> {
-        // `?` serves refusals here, so an absence is answered by hand.
+        // `?` would hand up a refusal here, and no absence. A grid over lengths has the same lines, in a crate apart.
         match self.axis(axis) {
             Some(there) => there.origin(axis as u8, chunk),
             None => Ok(None),

@@ -15,7 +15,8 @@ use std::marker::PhantomData;
 
 impl<'a, R: SumRule> TableGrid<'a, R> {
     // The grid with these sizes and axes over a table, or a refusal beside a grid of no axes.
-    // A rule of the library: a refused making leaves a grid of no axes. The pair is made here, and nowhere below.
+    // A rule of the library: a refused making leaves a grid of no axes. The pair is made here, and nowhere below; a grid
+    // over lengths makes its own, in a crate apart.
     pub fn new(
         array_shape: &[u64],
         axes: &[Dimension],

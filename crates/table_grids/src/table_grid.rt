@@ -9,7 +9,8 @@ use edges::OffsetSize;
 use std::alloc::AllocError;
 use std::marker::PhantomData;
 
-// A grid over a table, whose spans keep a sum rule. There is no heap, so plain arrays stand beside the shared slice.
+// A grid over a table, whose spans keep a sum rule. There is no heap, so plain arrays stand beside the shared slice; `fits_by` reads two
+// of them as they are.
 // `none_refused` keeps what was checked of each span: it is within the table, its offsets are sums, its sizes are
 // at least 1, its end has 64 bits, and its sum keeps the rule.
 pub struct TableGrid<'a, R: SumRule> {
