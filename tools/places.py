@@ -39,16 +39,14 @@ def line(s, i):
     return s.count("\n", 0, i) + 1
 
 
-def find(pt, kind, pattern, what=0, keep=lambda p, s, m: True):
-    for p, s in sorted(src.items()):
-        for m in re.finditer(pattern, s):
-            if keep(p, s, m):
-                out.append((pt, kind, f"{p}:{line(s, m.start())}", " ".join(m.group(what).split())[:90]))
+def library():
+    """Path and text of each file that is no test."""
+    return [(p, s) for p, s in sorted(src.items()) if "tests" not in p]
 
 
 def functions():
-    """Each function: path, line, impl or trait, name, parameters, clauses, body."""
-    for p, s in sorted(src.items()):
+    """Each function that is no test: path, line, impl or trait, name, parameters, clauses, body."""
+    for p, s in library():
         for m in re.finditer(r"(?m)^( *)(?:pub(?:\(crate\))? )?fn (\w+)", s):
             i = m.end()
             depth = 0
@@ -71,24 +69,42 @@ def functions():
             yield p, line(s, m.start()), owner, m.group(2), s[i + 1 : j - 1], s[j : b.start()], s[b.end() : e.start()]
 
 
-library = lambda p, s, m: "tests" not in p
+# The points that a pattern finds: point, kind, pattern.
+PATTERNS = [
+    # 1: own enums of the shape of Option or Result, flags with a value, numbers for kinds or refusals
+    (1, "own-enum", r"enum \w+ \{[^}]*\b(?:Absent|Refused\(|Found)[^}]*\}"),
+    (1, "flag", r"struct \w+(?:<[^>]*>)? \{[^}]*: bool,[^}]*\}"),
+    (1, "refusal-as-option", r"-> Option<(?:Cause|Fault)>"),
+    (1, "refusal-beside", r"-> \((?:Self|[A-Z]\w*(?:<[^>]*>)?), Result<\(\), Fault>\)"),
+    (1, "fault-beside", r"\bfault: Option<Fault>"),
+    (1, "nested-result", r"\) -> Result<(?:Option|Result)<[^;{]*AllocError>"),
+    (1, "nested-match", r"Ok\((?:Some|None|Ok|Err)(?:\(\w*\))?\) => (?:Ok|Err|return|None|Some)|=> Ok\(Answer::Refused|=> Ok\(Err\("),
+    (1, "hand-written-?", r"else \{\s*return (?:Ok\()?(?:Answer::NotUnderstood|None)\)?;|None => (?:return )?(?:Ok\(None\)|None),|Some\(fault\) => Err\(fault\)"),
+    (1, "number", r"\baxis: u8,|-> u8\n"),
+    # 3: loops that count an index by hand
+    (3, "range", r"for \w+ in [^{]*\.\.[^{]*\{"),
+    (3, "counter", r"\b\w+ \+= 1;|\bat = end;"),
+    # 4: conversions and the like written by hand
+    (4, "refusal-of-axis", r"axis: \w+ as u8"),
+    (4, "number-of", r"self as u8|fn number\("),
+    (4, "conversion", r"fn (?:parts\(run|run_of\(|command_named\()[^)]*\)[^{]*"),
+    (4, "compared-by-number", r"\w+\.get\(\) [!=]= \w+\.get\(\)"),
+    (4, "option-by-hand", r"if [^{]*\{\s*(?:Some\([^}]*\)|None)\s*\} else \{\s*(?:Some\([^}]*\)|None)\s*\}|Some\((\w+)\) => Ok\(Some\(\1\)\)"),
+    # 6: buffers with a length beside them, parallel arrays
+    (6, "array", r"(?m)^ +(?:pub(?:\(crate\))? )?\w+: \[[^\]]*; \d+\],"),
+    (6, "search", r"let middle = "),
+    # 7: a switch on which step to run
+    (7, "switch", r"match (?:question|shape|about|rule|command|kind) \{"),
+]
 
-# 1: own enums of the shape of Option or Result, flags with a value, numbers for kinds or refusals
-find(1, "own-enum", r"enum \w+ \{[^}]*\b(?:Absent|Refused\(|Found)[^}]*\}", keep=library)
-find(1, "flag", r"struct \w+(?:<[^>]*>)? \{[^}]*: bool,[^}]*\}", keep=library)
-find(1, "refusal-as-option", r"-> Option<(?:Cause|Fault)>", keep=library)
-find(1, "refusal-beside", r"-> \((?:Self|[A-Z]\w*(?:<[^>]*>)?), Result<\(\), Fault>\)", keep=library)
-find(1, "fault-beside", r"\bfault: Option<Fault>", keep=library)
-find(1, "nested-result", r"\) -> Result<(?:Option|Result)<[^;{]*AllocError>", keep=library)
-find(1, "nested-match", r"Ok\((?:Some|None|Ok|Err)(?:\(\w*\))?\) => (?:Ok|Err|return|None|Some)|=> Ok\(Answer::Refused|=> Ok\(Err\(", keep=library)
-find(1, "hand-written-?", r"else \{\s*return (?:Ok\()?(?:Answer::NotUnderstood|None)\)?;|None => (?:return )?(?:Ok\(None\)|None),|Some\(fault\) => Err\(fault\)", keep=library)
-find(1, "number", r"\baxis: u8,|-> u8\n", keep=library)
+for pt, kind, pattern in PATTERNS:
+    for p, s in library():
+        for m in re.finditer(pattern, s):
+            out.append((pt, kind, f"{p}:{line(s, m.start())}", " ".join(m.group().split())[:90]))
 
 # 2: twins: functions whose bodies are alike but for names, numbers and texts
 shapes = collections.defaultdict(list)
 for p, n, owner, name, params, clauses, body in functions():
-    if "tests" in p:
-        continue
     t = re.sub(r"//.*", "", body)
     toks = re.findall(r"\"[^\"]*\"|\w+|[^\w\s]", t)
     if len(toks) < 12:
@@ -100,23 +116,10 @@ for group in shapes.values():
         for p, n, name in group:
             out.append((2, "alike", f"{p}:{n}", f"{name} (of {len(group)})"))
 
-# 3: loops that count an index by hand
-find(3, "range", r"for \w+ in [^{]*\.\.[^{]*\{", keep=library)
-find(3, "counter", r"\b\w+ \+= 1;|\bat = end;", keep=library)
-
-# 4: conversions and the like written by hand
-find(4, "refusal-of-axis", r"axis: \w+ as u8", keep=library)
-find(4, "number-of", r"self as u8|fn number\(", keep=library)
-find(4, "conversion", r"fn (?:parts\(run|run_of\(|command_named\()[^)]*\)[^{]*", keep=library)
-find(4, "compared-by-number", r"\w+\.get\(\) [!=]= \w+\.get\(\)", keep=library)
-find(4, "option-by-hand", r"if [^{]*\{\s*(?:Some\([^}]*\)|None)\s*\} else \{\s*(?:Some\([^}]*\)|None)\s*\}|Some\((\w+)\) => Ok\(Some\(\1\)\)", keep=library)
-
 # 5: the same requirement, or the same parameters, in three functions or more of a crate
 needs = collections.defaultdict(list)
 takers = collections.defaultdict(list)
 for p, n, owner, name, params, clauses, body in functions():
-    if "tests" in p:
-        continue
     crate = p.split("/")[1]
     for r in re.findall(r"requires (?:\w+ )?\{([^\n]*)\}\n", clauses):
         for fact in r.split(" × "):
@@ -140,13 +143,6 @@ for (crate, at), xs in sorted(together.items()):
     if len(xs) > 1:
         for p, n, name in at:
             out.append((5, "parameters", f"{p}:{n}", f"{name} takes {', '.join(xs)}"))
-
-# 6: buffers with a length beside them, parallel arrays
-find(6, "array", r"(?m)^ +(?:pub(?:\(crate\))? )?\w+: \[[^\]]*; \d+\],", keep=library)
-find(6, "search", r"let middle = ", keep=library)
-
-# 7: a switch on which step to run
-find(7, "switch", r"match (?:question|shape|about|rule|command|kind) \{", keep=library)
 
 # 8: answers in proofs
 for p, s in sorted(answers.items()):
