@@ -60,6 +60,8 @@ pub(crate) fn chunk_number<G: ChunkGrid>(
 pub(crate) fn axis_inbounds<G: ChunkGrid>(grid: &G, axis: usize, index: u64) -> bool
     ensures { result ≡ axis_inbounds index (slice_get (G.axes grid.now) axis) }
 {
-    let size = grid.size(axis);
-    grid.chunk_at(axis, index).is_some() && size.is_some_and(|size| size == 0 || index < size)
+    grid.chunk_at(axis, index).is_some()
+        && grid
+            .size(axis)
+            .is_some_and(|size| size == 0 || index < size)
 }

@@ -1,4 +1,4 @@
-use Rattle.std.proofs.Common.{◌≡◌, ℕ, ◌+◌, ◌-◌, ◌*◌, ◌<◌, ◌≤◌, List, [], ◌∷◌, ◌++◌, length, get_or, take, drop, set, replicate, sym, refl, ap, ◌∙◌, inl, inr, mul-le-mul_right, add-mul, arith, length-append, length-drop}
+use Rattle.std.proofs.Common.{◌≡◌, ℕ, ◌+◌, ◌-◌, ◌*◌, ◌<◌, ◌≤◌, List, [], ◌∷◌, ◌++◌, length, get_or, take, drop, set, replicate, sym, refl, ap, subst, ◌∙◌, inl, inr, mul-le-mul_right, add-mul, arith, length-append, length-drop}
 use borrow.Rule.Slice.PartMut.{put_mid}
 use Rattle.std.specs.List.{FoldsTo}
 use Rattle.std.proofs.lemmas.Bool.{cases_lt}
@@ -18,9 +18,12 @@ same_more v (y ∷ xs) x e f =
     let ih = same_more v xs x rest f in
     cc
 
--- what calls give that always give v
-pub fills : {A F : Type 0} (R : F → A → F → Type 0) (v : A) → ((f : F) (x : A) (f' : F) → R f x f' → x ≡ v) → (f f' : F) (xs : List A) → FoldsTo R f xs f' → xs ≡ replicate (length xs) v
-fills R v says f f' xs ran = chained_keeps R (λ ys q. ys ≡ replicate (length ys) v) (λ ys q x q' e k. same_more v ys x e (says q x q' k)) xs f f' refl ran
+-- what calls give that always give v, where what is called stays as it is
+pub fills : {A F : Type 0} (R : F → A → F → Type 0) (v : A) (f : F) → ((x : A) (f' : F) → R f x f' → (x ≡ v) × (f' ≡ f)) → (f' : F) (xs : List A) → FoldsTo R f xs f' → xs ≡ replicate (length xs) v
+fills R v f says f' xs ran =
+    (chained_keeps R (λ ys q. (ys ≡ replicate (length ys) v) × (q ≡ f)) (λ ys q x q' e k.
+    let s = says x q' (subst (λ q. R q x q') e.1 k) in
+    (same_more v ys x e.0 s.0, s.1)) xs f f' (refl, refl) ran).0
 
 -- k values from a on are ys, the rest of xs as it was
 module _ {A : Type 0} (a k : ℕ) (xs : List A) (fits : a + k ≤ length xs) where

@@ -1,6 +1,7 @@
-use Rattle.std.proofs.Common.{◌≡◌, ℕ, zero, suc, ◌+◌, ◌<◌, ◌≤◌, Bool, true, false, List, ◌++◌, length, take, drop, set, is_some, Some, None, Option, position, unwrap_or, sym, refl, ap, ◌∙◌, inl, inr, arith, length-set, get_or, get_or-set_other, get_or-set_same}
-use Rattle.std.specs.List.{find, range_with_len}
-use Rattle.std.proofs.lemmas.List.{get_or-map, get_or_default, length-map, take-set}
+use Rattle.std.proofs.Common.{◌≡◌, ℕ, zero, suc, ◌+◌, ◌-◌, ◌<◌, ◌≤◌, Bool, true, false, ◌||◌, List, ◌++◌, length, take, drop, set, is_some, Some, None, Option, position, unwrap_or, sym, refl, ap, ◌∙◌, inl, inr, arith, length-set, get_or, get_or-set_other, get_or-set_same}
+use Rattle.std.specs.List.{find, list_any, range_with_len}
+use Rattle.std.proofs.lemmas.List.{get_or-append_right, get_or-drop, get_or-map, get_or_default, length-map, length-take-le, take-set}
+use Rattle.std.proofs.lemmas.List.Folds.{list_any_more}
 use Rattle.std.proofs.lemmas.List.Edits.{map_over_more}
 use Rattle.std.proofs.lemmas.List.Quantifiers.{position-Some}
 use Rattle.std.proofs.lemmas.Option.{same_Some, none-some}
@@ -100,3 +101,15 @@ pub let_go_turn : (c : ℕ) (xs ys : List Entry) (i : ℕ) (y : Entry) → i < l
     → let_go c (entry ys i) ≡ y → set ys i y ≡ released c (take (i + 1) xs) ++ drop (i + 1) xs
 let_go_turn c xs ys i y h long so_far e =
     ap (set ys i) (sym e) ∙ map_over_more (let_go c) xs ys i (entry ys i) h so_far (get_or_default ys i no_entry (entry ys i) (omega arith))
+
+-- whether one of the first entries is used for chunk c, one entry on in the same loop
+pub found_turn : (c : ℕ) (xs ys : List Entry) (i : ℕ) → i < length xs → ys ≡ released c (take i xs) ++ drop i xs
+    → list_any (names c) (take (i + 1) xs) ≡ (list_any (names c) (take i xs) || names c (entry ys i))
+found_turn c xs ys i h so_far =
+    let long : length (released c (take i xs)) ≡ i = length-map (take i xs) (let_go c) ∙ length-take-le i xs (omega arith) in
+    let here : entry ys i ≡ entry xs i =
+    ap (λ zs. entry zs i) so_far
+    ∙ get_or-append_right (released c (take i xs)) (drop i xs) i i no_entry long (omega arith)
+    ∙ get_or-drop i xs (i - i) no_entry
+    ∙ ap (entry xs) (omega arith) in
+    list_any_more (names c) xs i no_entry h ∙ ap (λ e. list_any (names c) (take i xs) || names c e) (sym here)

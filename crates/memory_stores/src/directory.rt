@@ -21,9 +21,12 @@ impl<'a> Directory<'a> {
     pub(crate) fn slot_of(&self, chunk: u64) -> Option<usize>
         ensures { result ≡ slot_of self.now.entries.now chunk }
     {
-        self.entries
-            .iter()
-            .position(|entry| entry.chunk == Some(chunk))
+        for (slot, entry) in self.entries.iter().enumerate() {
+            if entry.chunk == Some(chunk) {
+                return Some(slot);
+            }
+        }
+        None
     }
 
     // Whether a slot holds a chunk.

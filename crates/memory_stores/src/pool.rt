@@ -139,11 +139,13 @@ impl<'a, E: Element> WriteStore for Pool<'a, E> {
     }
 
     fn erase(&mut self, chunk: u64) -> Result<bool, Fault> {
-        let was = self.present(chunk)?;
+        in_range(chunk, self.limit())?;
         let slots = self.slots() as usize;
+        let mut was = false;
         for entry in &mut self.entries[..slots] {
             if entry.chunk == Some(chunk) {
                 entry.chunk = None;
+                was = true;
             }
         }
         Ok(was)

@@ -17,5 +17,7 @@ pub(crate) fn row(slot: u64, width: u64) -> Range<usize>
 pub(crate) fn clear<E: Element>(row: &mut [E])
     ensures { row.new ≡ replicate (length row.old) E.Element.blank }
 {
-    row.fill_with(|| E::fill());
+    // Asked once: a kind of the user's own may take long to answer.
+    let fill = E::fill();
+    row.fill_with(|| fill);
 }

@@ -25,6 +25,8 @@ pub fn words<'a>(heap: Global, line: &'a str) -> Result<Vec<&'a str>, AllocError
 {
     let mut words = parts(heap, line, ' ')?;
     words.retain(|part| !part.is_empty());
+    // The words are held while the line is answered, and a line may have many spaces.
+    words.shrink_to_fit();
     Ok(words)
 }
 

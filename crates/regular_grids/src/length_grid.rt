@@ -18,7 +18,10 @@ impl<R: EdgeRule> LengthGrid<R> {
     // The grid with these sizes and edges, or a refusal beside a grid of no axes.
     // A rule of the library: a refused making leaves a grid of no axes. The pair is made here, and nowhere below; a grid
     // over a table makes its own, in a crate apart.
-    pub fn new(array_shape: &[u64], chunk_shape: &[u64]) -> (LengthGrid<R>, Result<(), Fault>)
+    pub(crate) fn made(
+        array_shape: &[u64],
+        chunk_shape: &[u64],
+    ) -> (LengthGrid<R>, Result<(), Fault>)
         ensures { Makes result.1 (length_axes R.axis result.0.lengths) (new_lengths R.axis array_shape.now chunk_shape.now) }
     {
         let (lengths, made) = match Lengths::new(array_shape, chunk_shape) {
@@ -67,9 +70,14 @@ impl<R: EdgeRule> ChunkGrid for LengthGrid<R> {
     }
 
     fn fits(&self, limit: u64, width: u64) -> bool {
+        // Of the axes there are alone: `map` of the places would work out all eight.
+        let mut counts = [0; 8];
+        let mut longest = [0; 8];
+        for (axis, lengths) in self.lengths.axes().iter().enumerate() {
+            counts[axis] = lengths.chunks();
+            longest[axis] = R::longest(*lengths);
+        }
         let number = self.lengths.number;
-        let counts = self.lengths.places.map(|lengths| lengths.chunks());
-        let longest = self.lengths.places.map(|lengths| R::longest(lengths));
         fits_by(&counts[..number], &longest[..number], limit, width)
     }
 }

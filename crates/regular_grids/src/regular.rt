@@ -1,10 +1,13 @@
+ghost use Rattle.std.specs.Prelude.{◌≡◌};
 ghost use Rattle.axes.specs.Axes.{fixed};
-ghost use Rattle.regular_grids.specs.RegularAxes.{fixed_kept};
+ghost use Rattle.grids.specs.Making.{Makes};
+ghost use Rattle.regular_grids.specs.RegularAxes.{fixed_kept, regular_axes, new_regular};
 
 use crate::edge_rule::EdgeRule;
 use crate::length_grid::LengthGrid;
 use crate::lengths::AxisLengths;
 use edges::{Cause, Edge, Fault, Layer};
+use grids::ChunkGrid;
 
 // Every chunk has the edge of its axis. An axis of equal edges over a table answers likewise, in a crate apart.
 #[derive(Clone, Copy)]
@@ -12,6 +15,16 @@ pub struct EqualEdges;
 
 // A regular grid: on each axis every chunk has the same edge.
 pub type Regular = LengthGrid<EqualEdges>;
+
+impl LengthGrid<EqualEdges> {
+    // The grid with these sizes and edges, or a refusal beside a grid of no axes.
+    pub fn new(array_shape: &[u64], chunk_shape: &[u64]) -> (Regular, Result<(), Fault>)
+        ensures made { Makes result.1 (regular_axes result.0) (new_regular array_shape.now chunk_shape.now) }
+        ensures means { ⟦<Regular as ChunkGrid>⟧.axes result.0 ≡ regular_axes result.0 }
+    {
+        LengthGrid::made(array_shape, chunk_shape)
+    }
+}
 
 impl EdgeRule for EqualEdges {
     ghost axis = { fixed };

@@ -1,12 +1,14 @@
 ghost use Rattle.std.specs.Prelude.{◌≡◌};
 ghost use Rattle.axes.specs.Axes.{bounded};
+ghost use Rattle.grids.specs.Making.{Makes};
 ghost use Rattle.regular_grids.specs.LengthAxes.{start_below};
-ghost use Rattle.regular_grids.specs.RegularAxes.{bounded_kept};
+ghost use Rattle.regular_grids.specs.RegularAxes.{bounded_kept, bounded_axes, new_bounded};
 
 use crate::edge_rule::EdgeRule;
 use crate::length_grid::LengthGrid;
 use crate::lengths::AxisLengths;
 use edges::{Edge, Fault};
+use grids::ChunkGrid;
 
 // As equal edges, but the last chunk ends at the size and none follows.
 #[derive(Clone, Copy)]
@@ -14,6 +16,16 @@ pub struct BoundedEdges;
 
 // A bounded grid: as a regular one, but the last chunk ends at the size and none follows.
 pub type RegularBounded = LengthGrid<BoundedEdges>;
+
+impl LengthGrid<BoundedEdges> {
+    // The grid with these sizes and edges, or a refusal beside a grid of no axes.
+    pub fn new(array_shape: &[u64], chunk_shape: &[u64]) -> (RegularBounded, Result<(), Fault>)
+        ensures made { Makes result.1 (bounded_axes result.0) (new_bounded array_shape.now chunk_shape.now) }
+        ensures means { ⟦<RegularBounded as ChunkGrid>⟧.axes result.0 ≡ bounded_axes result.0 }
+    {
+        LengthGrid::made(array_shape, chunk_shape)
+    }
+}
 
 // Where a chunk begins that is below the number of chunks.
 fn start(sides: AxisLengths, chunk: u64) -> Option<u64>

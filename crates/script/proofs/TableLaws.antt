@@ -1,14 +1,17 @@
-use Rattle.std.proofs.Common.{◌≡◌, ℕ, ◌+◌, ◌<◌, ◌≤◌, eqb, List, [], ◌∷◌, ◌++◌, length, get_or, drop, Some, None, Ok, Err, vec_items, Option, sym, refl, ap, ◌∙◌, Bor, MatchOption}
+use Rattle.std.proofs.Common.{◌≡◌, ℕ, ◌+◌, ◌<◌, ◌≤◌, true, false, eqb, List, [], ◌∷◌, ◌++◌, length, get_or, drop, Some, None, Ok, Err, vec_items, Option, Result, sym, refl, ap, ◌∙◌, Bor, MatchOption}
 use Rattle.std.specs.Option.{option_map}
+use Rattle.std.specs.Result.{is_ok}
 use Rattle.std.proofs.lemmas.List.{drop_more, at_drop_all}
-use Rattle.std.proofs.lemmas.Bool.{cond-true, cond-false, eq-eqb, ne_eqb}
+use Rattle.std.proofs.lemmas.Option.{same_Some}
+use Rattle.std.proofs.lemmas.Bool.{cond-true, cond-false, eq-eqb, ne_eqb, both_ways}
 use Rattle.notation.specs.Texts.{texts}
 use Rattle.notation.proofs.WordLaws.{no_text}
 use Rattle.edges.specs.declared.fault.Fault.{Fault}
 use Rattle.script.specs.declared.tables.AxisText.{AxisText}
 use Rattle.script.specs.declared.tables.AxisText.TheVariants.{Runs}
 use Rattle.script.specs.declared.tables.AxisText.TheVariants as axis
-use Rattle.script.specs.Tables.{closed, bracketed, Laying, next_axis, then_axes, axes_laid, runs_more, added, all_added, unless, whole}
+use Rattle.script.specs.declared.tables.Tables.{Tables}
+use Rattle.script.specs.Tables.{closed, bracketed, Laying, laying, next_axis, then_axes, axes_laid, runs_more, added, unless, whole}
 
 -- a text in brackets
 closed_there : (front : List ℕ) → closed (front ++ 93 ∷ []) ≡ Some front
@@ -53,21 +56,10 @@ module _ (words : List (Bor (List ℕ))) (start : Laying) (i : ℕ) (l : Laying)
   unfolding axes_laid
   axes_read h = sym (at_drop_all (λ ws. axes_laid (texts ws) l) words i h) ∙ p
 
--- axes that are laid one after another
-pub all_added_push : (l : Laying) (axes : List AxisText) (a : AxisText) → all_added l (axes ++ a ∷ []) ≡ added (all_added l axes) a
-unfolding all_added
-all_added_push l [] a = refl
-all_added_push l (b ∷ axes) a = all_added_push (added l b) axes a
-
 -- after a refusal nothing more is laid
 fault_kept : (l : Laying) (a : AxisText) (f : Fault) → l.fault ≡ Some f → (added l a).fault ≡ Some f
 fault_kept l (axis.Fixed e) f q = q
 fault_kept l (Runs rs) f q = ap (λ o. (runs_more l o (vec_items rs)).fault) q ∙ q
-
-all_kept : (l : Laying) (axes : List AxisText) (f : Fault) → l.fault ≡ Some f → (all_added l axes).fault ≡ Some f
-unfolding all_added
-all_kept l [] f q = q
-all_kept l (a ∷ axes) f q = all_kept (added l a) axes f (fault_kept l a f q)
 
 fault_is : (l : Laying) (f : Fault) → Some (Err f) ≡ Some (whole l) → l.fault ≡ Some f
 fault_is l f e = go l.fault e where
@@ -75,19 +67,34 @@ fault_is l f e = go l.fault e where
   go None q = cc
   go (Some g) q = cc
 
-pub refused_stays : (l : Laying) (axes : List AxisText) (f : Fault) → Some (Err f) ≡ Some (whole l) → Some (Err f) ≡ Some (whole (all_added l axes))
-refused_stays l axes f e = ap Some (sym (ap (unless (all_added l axes)) (all_kept l axes f (fault_is l f e))))
-
-pub whole_is : (l m : Laying) → Some (Ok m) ≡ Some (whole l) → m ≡ l
+whole_is : (l m : Laying) → Some (Ok m) ≡ Some (whole l) → m ≡ l
 whole_is l m e = go l.fault e where
   go : (o : Option Fault) → Some (Ok m) ≡ Some (unless l o) → m ≡ l
   go None q = cc
   go (Some f) q = cc
 
-pub next_added : (axes : List AxisText) (i : ℕ) (l : Laying) (a : AxisText) → i < length axes → a ≡ get_or axes i a → all_added l (drop i axes) ≡ all_added (added l a) (drop (i + 1) axes)
-unfolding all_added
-next_added axes i l a h e = ap (all_added l) (drop_more axes i a h ∙ ap (λ b. b ∷ drop (i + 1) axes) (sym e))
+-- what the axes read so far give: their tables, or the first refusal
+abbrev pub told : Result (Unit {0}) Fault → Tables → Result Laying Fault
+told (Ok u) t = Ok (laying t)
+told (Err f) t = Err f
 
-pub added_all : (axes : List AxisText) (i : ℕ) (l : Laying) → length axes ≤ i → all_added l (drop i axes) ≡ l
-unfolding all_added
-added_all axes i l h = at_drop_all (all_added l) axes i h
+-- one more axis is laid, or refused
+module _ (m : Laying) (r : Result (Unit {0}) Fault) (t : Tables) (a : AxisText) (e : whole m ≡ told r t) where
+  laid_on : is_ok r ≡ true → whole (added m a) ≡ whole (added (laying t) a)
+  laid_on k = go r e k where
+    go : (s : Result (Unit {0}) Fault) → whole m ≡ told s t → is_ok s ≡ true → whole (added m a) ≡ whole (added (laying t) a)
+    go (Ok u) q k = ap (λ l. whole (added l a)) (sym (whole_is m (laying t) (ap Some (sym q))))
+    go (Err f) q k = absurd (both_ways false refl k)
+
+  pub told_added : (x : Result Laying Fault) → is_ok r ≡ true → Some x ≡ Some (whole (added (laying t) a)) → whole (added m a) ≡ x
+  told_added x k f = laid_on k ∙ sym (same_Some _ _ f)
+
+  pub told_refused : is_ok r ≡ false → whole (added m a) ≡ told r t
+  told_refused k = go r e k where
+    go : (s : Result (Unit {0}) Fault) → whole m ≡ told s t → is_ok s ≡ false → whole (added m a) ≡ told s t
+    go (Ok u) q k = absurd (both_ways true k refl)
+    go (Err f) q k = ap (unless (added m a)) (fault_kept m a f (fault_is m f (ap Some (sym q))))
+
+pub told_ok : (r : Result (Unit {0}) Fault) (t : Tables) → is_ok r ≡ true → told r t ≡ Ok (laying t)
+told_ok (Ok u) t k = refl
+told_ok (Err f) t k = absurd (both_ways false refl k)

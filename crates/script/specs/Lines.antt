@@ -12,7 +12,7 @@ use Rattle.table_grids.specs.declared.dimension.Dimension.{Dimension}
 use Rattle.notation.specs.Texts.{words_of, number_in, field_in}
 use Rattle.notation.specs.Lists.{list_in, run_in}
 use Rattle.script.specs.declared.current.Current.{Current}
-use Rattle.script.specs.declared.current.Current.TheVariants.{Lengths, Tables}
+use Rattle.script.specs.declared.current.Current.TheVariants.{Lengths, Tables, Refused}
 use Rattle.script.specs.declared.current.LengthKind.{LengthKind}
 use Rattle.script.specs.declared.current.LengthKind.TheVariants.{Regular, Bounded}
 use Rattle.script.specs.declared.current.TableKind.{TableKind}
@@ -55,6 +55,7 @@ tables_making Rectilinear = new_rectilinear
 abbrev pub current_making : Current → Result (List Axis) Fault
 current_making (Lengths kind sizes edges) = lengths_making kind (vec_items sizes) (vec_items edges)
 current_making (Tables kind sizes axes table) = tables_making kind (vec_items sizes) (vec_items axes) (vec_items table)
+current_making (Refused f) = Err f
 
 -- What is made of laid axes; a refusal of the laying is the grid's.
 abbrev pub laid_making : (List Dimension → List OffsetSize → Result (List Axis) Fault) → Laying → Option Fault → Result (List Axis) Fault

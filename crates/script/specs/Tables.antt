@@ -70,14 +70,10 @@ axes_laid (t ∷ ts) l = then_axes (axes_laid ts) (next_axis l t)
 unfoldable pub axes_in : List ℕ → Option Laying
 axes_in t = cond (bytes_eq t (codes "-")) (Some nothing_laid) (axes_laid (parts_at 59 t) nothing_laid)
 
--- One more axis, and more of them, as they are written.
+-- One more axis, as it is written.
 abbrev pub added : Laying → AxisText → Laying
 added l (axis.Fixed e) = fixed_more l e
 added l (Runs rs) = runs_more l l.fault (vec_items rs)
-
-unfoldable pub all_added : Laying → List AxisText → Laying
-all_added l [] = l
-all_added l (a ∷ more) = all_added (added l a) more
 
 -- What was laid, or the first refusal.
 abbrev pub unless : {A : Type 0} → A → Option Fault → Result A Fault

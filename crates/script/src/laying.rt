@@ -3,7 +3,7 @@ ghost use Rattle.std.specs.Option.{option_map};
 ghost use Rattle.notation.specs.Texts.{texts};
 ghost use Rattle.notation.specs.Lists.{Reads};
 ghost use Rattle.script.specs.Stops.{MakesOrStops};
-ghost use Rattle.script.specs.Tables.{bracketed as bracketed_in, laying, nothing_laid, fixed_more, runs_more, next_axis, axes_laid, axes_in, added, all_added, whole};
+ghost use Rattle.script.specs.Tables.{bracketed as bracketed_in, laying, nothing_laid, fixed_more, runs_more, next_axis, axes_laid, axes_in, added, whole};
 
 use crate::listing::laid;
 use crate::stop::Stop;
@@ -33,29 +33,17 @@ fn axis(heap: Global, text: &str) -> Result<AxisText, ListError>
     }
 }
 
-// The axes that the texts write. An axis is no `Item` of a list: it owns its runs, so reading it can want memory.
-fn each_axis(heap: Global, words: &[&str]) -> Result<Vec<AxisText>, ListError>
-    ensures { (l : _) → Reads (λ v. all_added l v.items) result (axes_laid (texts words.now) l) }
-{
-    let mut axes = Vec::new(heap);
-    for word in words {
-        axes.push(axis(heap, word)?)?;
-    }
-    Ok(axes)
-}
-
-// The axes that a text writes.
-pub(crate) fn axes(heap: Global, text: &str) -> Result<Vec<AxisText>, ListError>
-    ensures { Reads (λ v. all_added nothing_laid v.items) result (axes_in text.now) }
-{
-    if text == "-" {
-        return Ok(Vec::new(heap));
-    }
-    let words = items(heap, text)?;
-    each_axis(heap, words.as_slice())
-}
-
 impl Tables {
+    // No axes.
+    fn none(heap: Global) -> Tables
+        ensures { laying result ≡ nothing_laid }
+    {
+        Tables {
+            dimensions: Vec::new(heap),
+            table: Vec::new(heap),
+        }
+    }
+
     // One more axis, with one edge for every chunk.
     fn add_fixed(&mut self, edge: u64) -> Result<(), Stop>
         ensures { MakesOrStops (λ _. Ok (laying self.new)) result (Some (whole (fixed_more (laying self.old) edge))) }
@@ -87,16 +75,34 @@ impl Tables {
     }
 }
 
-// The axes, laid one after another into one table.
-pub(crate) fn laid_axes(heap: Global, axes: &[AxisText]) -> Result<Tables, Stop>
-    ensures { MakesOrStops (λ t. Ok (laying t)) result (Some (whole (all_added nothing_laid axes.now))) }
+// The axes that the texts write, laid one after another into one table. Each is laid as soon as it is read, so that the runs
+// of one axis are held at a time. A text that writes no axis comes before a refusal, so the first one is kept meanwhile.
+fn each_axis(heap: Global, words: &[&str]) -> Result<Tables, Stop>
+    ensures { MakesOrStops (λ t. Ok (laying t)) result (option_map whole (axes_laid (texts words.now) nothing_laid)) }
 {
-    let mut tables = Tables {
-        dimensions: Vec::new(heap),
-        table: Vec::new(heap),
-    };
-    for axis in axes {
-        tables.add(heap, axis)?;
+    let mut tables = Tables::none(heap);
+    let mut refused = Ok(());
+    for word in words {
+        let axis = axis(heap, word)?;
+        if refused.is_ok() {
+            match tables.add(heap, &axis) {
+                Ok(()) => {}
+                Err(Stop::Refused(fault)) => refused = Err(fault),
+                Err(stop) => return Err(stop),
+            }
+        }
     }
+    refused?;
     Ok(tables)
+}
+
+// The axes that a text writes, laid one after another into one table.
+pub(crate) fn axes(heap: Global, text: &str) -> Result<Tables, Stop>
+    ensures { MakesOrStops (λ t. Ok (laying t)) result (option_map whole (axes_in text.now)) }
+{
+    if text == "-" {
+        return Ok(Tables::none(heap));
+    }
+    let words = items(heap, text)?;
+    each_axis(heap, words.as_slice())
 }

@@ -42,10 +42,14 @@ fn ask(current: &Current, question: Question, arguments: Arguments) -> Result<An
             let (grid, _) = Rectilinear::new(sizes.as_slice(), axes.as_slice(), table.as_slice());
             answer_question(&grid, question, arguments)
         }
+        Current::Refused(_) => {
+            let (grid, _) = Regular::new(&[], &[]);
+            answer_question(&grid, question, arguments)
+        }
     }
 }
 
-// `grid KIND sizes=LIST spec=TEXT`: makes the current grid, one of no axes where it is refused.
+// `grid KIND sizes=LIST spec=TEXT`: makes the current grid; one that is refused has no axes.
 fn set_grid(current: &mut Current, arguments: Arguments) -> Result<Answer, Stop>
     ensures answer { Replies result (made_reply (outcome_in (texts arguments.entry.words.now))) }
     ensures after { Becomes (settled_answer result) (current_axes current.old) (current_axes current.new) (made_axes (current_axes current.old) (outcome_in (texts arguments.entry.words.now))) }
@@ -56,7 +60,7 @@ fn set_grid(current: &mut Current, arguments: Arguments) -> Result<Answer, Stop>
             Ok(Answer::Made)
         }
         Err(Stop::Refused(fault)) => {
-            *current = Current::none(arguments.heap);
+            *current = Current::Refused(fault);
             Err(Stop::Refused(fault))
         }
         Err(stop) => Err(stop),

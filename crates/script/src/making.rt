@@ -8,7 +8,7 @@ ghost use Rattle.script.specs.Lines.{axes_making, current_axes, current_making, 
 
 use crate::arguments::Arguments;
 use crate::current::{Current, LengthKind, TableKind};
-use crate::laying::{axes, laid_axes};
+use crate::laying::axes;
 use crate::stop::Stop;
 use crate::tables::Tables;
 use edges::Fault;
@@ -54,6 +54,7 @@ impl Current {
                 );
                 answer
             }
+            Current::Refused(fault) => Err(*fault),
         }
     }
 }
@@ -70,8 +71,7 @@ fn lengths_of(heap: Global, kind: LengthKind, sizes: Vec<u64>, spec: &str) -> Re
 fn tables_of(heap: Global, kind: TableKind, sizes: Vec<u64>, spec: &str) -> Result<Current, Stop>
     ensures { MakesOrStops current_making result (option_map (axes_making (tables_making kind sizes.items)) (axes_in spec.now)) }
 {
-    let axes = axes(heap, spec)?;
-    let Tables { dimensions, table } = laid_axes(heap, axes.as_slice())?;
+    let Tables { dimensions, table } = axes(heap, spec)?;
     Ok(Current::Tables(kind, sizes, dimensions, table))
 }
 

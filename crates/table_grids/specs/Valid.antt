@@ -4,7 +4,7 @@ use Rattle.std.specs.List.{slice_get}
 use Rattle.std.specs.Option.{unwrap_or}
 use Rattle.std.proofs.lemmas.Bool.{and_parts, or_parts, eqb-true, eqb-false, ltb-true, leb-true, both_ways}
 use Rattle.std.proofs.lemmas.Option.{slice_get-get_or, slice_get_past}
-use Rattle.std.proofs.lemmas.List.{length-map, get_or-map, take_all}
+use Rattle.std.proofs.lemmas.List.{length-map, length-take, length-drop, get_or-map, take_all}
 use Rattle.edges.specs.declared.table.OffsetSize.{OffsetSize}
 use Rattle.edges.specs.declared.fault.Cause.TheVariants.{Zero, Sum, Overflow, Short}
 use Rattle.edges.specs.Answers.{no_entry}
@@ -28,6 +28,10 @@ pub record ValidSpan (n : ℕ) (es : List OffsetSize) : Type 0 where
 abbrev pub ValidAxis : List OffsetSize → ℕ → Dimension → Type 0
 ValidAxis t n (Fixed s) = 1 ≤ s
 ValidAxis t n (Varying first number) = (first + number ≤ length t) × ValidSpan n (span t first number)
+
+-- a span within the table has as many entries as it says
+pub span-length : (t : List OffsetSize) (first number : ℕ) → first + number ≤ length t → length (sizes (span t first number)) ≡ number
+span-length t first number h = simp (length-map, length-take, length-drop) (omega arith)
 
 -- the size in entry k is the edge of chunk k, and past the entries there is none
 pub size_at : (es : List OffsetSize) (k : ℕ) → k < length es → slice_get (sizes es) k ≡ Some (slice_index_or es k no_entry).size

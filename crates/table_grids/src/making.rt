@@ -17,7 +17,7 @@ impl<'a, R: SumRule> TableGrid<'a, R> {
     // The grid with these sizes and axes over a table, or a refusal beside a grid of no axes.
     // A rule of the library: a refused making leaves a grid of no axes. The pair is made here, and nowhere below; a grid
     // over lengths makes its own, in a crate apart.
-    pub fn new(
+    pub(crate) fn made(
         array_shape: &[u64],
         axes: &[Dimension],
         table: &'a [OffsetSize],
@@ -46,7 +46,7 @@ impl<'a, R: SumRule> TableGrid<'a, R> {
         }
     }
 
-    // The grid with these sizes and axes over a table. The two steps below `new` take what it takes: a struct of the
+    // The grid with these sizes and axes over a table. The two steps below `made` take what it takes: a struct of the
     // three would be made to be taken apart at once.
     fn checked(
         array_shape: &[u64],

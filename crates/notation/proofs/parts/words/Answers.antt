@@ -6,5 +6,5 @@ use Rattle.notation.proofs.parts.words.Goals as goal
 
 pub returns : goal.returns
 returns c =
-    ap texts (filter_same _ (λ x. not (eqb (length x.now) 0)) _ (λ x b f' k. search rules) _ _ c.retain.ensures.filtered)
+    ap texts (c.shrink_to_fit.ensures.items ∙ filter_same _ (λ x. not (eqb (length x.now) 0)) _ (λ x b f' k. search rules) _ _ c.retain.ensures.filtered)
     ∙ filled_is c.in_ok-words.words.items ∙ ap filled c.in_ok-words.ensures

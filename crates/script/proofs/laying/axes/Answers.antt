@@ -1,11 +1,11 @@
 use Rattle.std.proofs.Common.{rules}
-use Rattle.script.specs.Tables.{axes_in, all_added, nothing_laid}
+use Rattle.script.specs.Tables.{axes_in}
 use Rattle.script.proofs.laying.axes.Goals as goal
 
 pub returns-then-eq : goal.returns-then-eq
-unfolding axes_in all_added
+unfolding axes_in
 returns-then-eq c = search rules
 
 pub returns : goal.returns
 unfolding axes_in
-returns c = let e = c.each_axis.ensures nothing_laid in search rules
+returns c = search rules

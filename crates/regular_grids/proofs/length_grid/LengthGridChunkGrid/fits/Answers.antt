@@ -1,4 +1,5 @@
-use Rattle.std.proofs.Common.{rules, arith}
+use Rattle.std.proofs.Common.{◌≡◌, length, take, ap, rules, arith}
+use Rattle.std.proofs.lemmas.List.{length-take}
 use Rattle.regular_grids.proofs.LengthLaws.{longest_of}
 use Rattle.regular_grids.proofs.length_grid.LengthGridChunkGrid.fits.Goals as goal
 
@@ -6,9 +7,7 @@ pub returns : goal.returns
 returns g c =
     let x = c.args.self.now.lengths in
     let few = x.few in
-    let lc = c.map-counts.ensures.items.long in
-    let lm = c.map-longest.ensures.items.long in
-    c.fits_by.ensures _ (longest_of g.R.EdgeRule.axis x.places _ _ x.number (search rules) (omega arith) (omega arith) (λ k d l.
-    let (p, q, s) = c.map-counts.ensures.items.at k d 0 (omega arith) in
-    let (t, u, v) = c.map-longest.ensures.items.at k d 0 (omega arith) in
-    (search rules, search rules)))
+    let n = c.loop-axis.invariant.long in
+    let m = ap length c.axes-lengths-items.ensures in
+    let t : length (take x.number x.places) ≡ x.number = simp length-take (omega arith) in
+    c.fits_by.ensures _ (longest_of g.R.EdgeRule.axis x.places _ _ x.number (search rules) (omega arith) (omega arith) (λ k d l. c.loop-axis.invariant.told k d (omega arith)))
